@@ -1,0 +1,4 @@
+pub mod Examples
+pub mod KeyNumber
+pub mod KeyOrder
+pub mod OrderedFacts
