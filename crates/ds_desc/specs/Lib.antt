@@ -1,0 +1,3 @@
+pub mod Contains
+pub mod Counts
+pub mod Replicas
