@@ -6,9 +6,11 @@ pub mod cluster;
 pub mod event;
 pub mod journal;
 pub mod record;
+pub mod wire;
 
 pub use answer::{Answer, Outcome};
 pub use cluster::{Cluster, ClusterRange, ClusterRanges};
 pub use event::{Block, Event, Events, Picks, Timed};
 pub use journal::{Entry, JournalStep, JournalSteps, RunLog};
 pub use record::{RecordStatus, Records, TxnRecord};
+pub use wire::Wire;
