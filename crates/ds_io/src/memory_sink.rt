@@ -69,7 +69,7 @@ impl Sink for MemSink {
         ensures bytes { WriteAppends (Some self.old.held) (Some self.new.held) result bytes.now }
         ensures counts { Counts result self.old.faults self.new.faults }
 
-        // The list may hold any u32, and no greater number stands in it.
+        // A count that has stopped at its last value stands in no list of u32s.
         ensures fails { IsErr result ↔ (IsTrue (is_listed (raised self.old.calls) self.old.fail) ⊎ (self.old.room ≡ 0)) }
         ensures numbered { self.new.calls ≡ raised self.old.calls }
         ensures same { self.new.fail ≡ self.old.fail }

@@ -92,7 +92,7 @@ impl Source for MemSource {
         ensures end { IfOk result (EndsExactly (Some self.old.left)) }
         ensures counts { Counts result self.old.faults self.new.faults }
 
-        // The list may hold any u32, and no greater number stands in it.
+        // A count that has stopped at its last value stands in no list of u32s.
         ensures fails { IsErr result ↔ IsTrue (is_listed (raised self.old.calls) self.old.fail) }
         ensures numbered { self.new.calls ≡ raised self.old.calls }
         ensures same { self.new.fail ≡ self.old.fail }

@@ -20,8 +20,9 @@ pub trait Source {
 
     /// Gives the next bytes into the front of the buffer, and answers how many: 0 is the end.
     ///
-    /// Known bytes that are given leave the source, and 0 comes exactly where none was left. At
-    /// `Failed` the known bytes stay and the count of failed takes rises; at `Ok` it stays.
+    /// The buffer must not be empty. Known bytes that are given leave the source, and 0 comes
+    /// exactly where none was left. At `Failed` the known bytes stay and the count of failed takes
+    /// rises, or stands at its last value; at `Ok` it stays.
     fn take(&mut self, buf: &mut [u8]) -> Result<usize, Failed>
         requires { 0 < length buf.old }
         ensures bound { IfOk result (λ n. n ≤ length buf.new) }
@@ -40,8 +41,8 @@ pub trait Sink {
 
     /// Takes bytes from the front of the piece, at least one, and answers how many.
     ///
-    /// They join the known bytes. At `Failed` the known bytes stay and the count of failed puts
-    /// rises; at `Ok` it stays.
+    /// The piece must not be empty. What was taken joins the known bytes. At `Failed` the known
+    /// bytes stay and the count of failed puts rises, or stands at its last value; at `Ok` it stays.
     fn put(&mut self, bytes: &[u8]) -> Result<usize, Failed>
         requires { 0 < length bytes.now }
         ensures some { IfOk result (λ n. 0 < n) }

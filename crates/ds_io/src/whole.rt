@@ -1,4 +1,4 @@
-ghost use Rattle.std.specs.Prelude.{◌≡◌, ℕ, List, ◌+◌, ◌<◌, ◌≤◌, IfOk, OnOk, OnErr, IsErrOf, length, take};
+ghost use Rattle.std.specs.Prelude.{◌≡◌, ℕ, List, ◌+◌, ◌<◌, ◌≤◌, IfOk, OnOk, OnErr, IsErrOf, alloc_error, length, take};
 ghost use Rattle.std.specs.Io.KnownBytes.{Consumes, Appends, IsAtEnd};
 ghost use Rattle.ds_io.specs.Counts.{Counts, Rose};
 ghost use Rattle.ds_io.specs.declared.whole.ReadError.TheVariants.{Fault, Memory};
@@ -54,13 +54,19 @@ pub fn read_all<S: Source>(alloc: Global, source: &mut S) -> Result<Vec<u8>, Rea
     ensures counts { OnOk result (S.faults source.new ≡ S.faults source.old) }
     ensures fault { IsErrOf result ReadError.Fault → Rose (S.faults source.old) (S.faults source.new) }
     ensures too_long { IsErrOf result ReadError.TooLong → (bytes : List ℕ) × (length bytes ≡ LIMIT + 1) × Consumes (S.left source.old) (S.left source.new) bytes × (S.faults source.new ≡ S.faults source.old) }
+    ensures memory { IsErrOf result (ReadError.Memory alloc_error) → S.faults source.new ≡ S.faults source.old }
+    ensures lost { OnErr result ((bytes : List ℕ) × Consumes (S.left source.old) (S.left source.new) bytes) }
 {
     let mut piece = vec![in alloc; 0u8; PIECE]?;
     read_pieces(alloc, source, &mut piece)
 }
 
 // `read_all`, by takes into this buffer.
-fn read_pieces<S: Source>(alloc: Global, source: &mut S, piece: &mut [u8]) -> Result<Vec<u8>, ReadError>
+fn read_pieces<S: Source>(
+    alloc: Global,
+    source: &mut S,
+    piece: &mut [u8],
+) -> Result<Vec<u8>, ReadError>
     requires { 0 < length piece.old }
     ensures ok { IfOk result (λ v. Consumes (S.left source.old) (S.left source.new) v.items) }
     ensures end { OnOk result (IsAtEnd (S.left source.new)) }
@@ -68,6 +74,8 @@ fn read_pieces<S: Source>(alloc: Global, source: &mut S, piece: &mut [u8]) -> Re
     ensures counts { OnOk result (S.faults source.new ≡ S.faults source.old) }
     ensures fault { IsErrOf result ReadError.Fault → Rose (S.faults source.old) (S.faults source.new) }
     ensures too_long { IsErrOf result ReadError.TooLong → (bytes : List ℕ) × (length bytes ≡ LIMIT + 1) × Consumes (S.left source.old) (S.left source.new) bytes × (S.faults source.new ≡ S.faults source.old) }
+    ensures memory { IsErrOf result (ReadError.Memory alloc_error) → S.faults source.new ≡ S.faults source.old }
+    ensures lost { OnErr result ((bytes : List ℕ) × Consumes (S.left source.old) (S.left source.new) bytes) }
 {
     let mut bytes = Vec::new(alloc);
     'pieces: while bytes.len() <= LIMIT {
