@@ -1,6 +1,6 @@
 -- What the definitions of specs/ say of small cases.
-use Rattle.std.proofs.Common.{◌≡◌, ◌<◌, [], ◌∷◌, Some, None, true, false, refl, sym, inl, inr, lit<, arith}
-use Rattle.ds_io.specs.Counts.{last, raised, Rose}
+use Rattle.std.proofs.Common.{◌≡◌, [], ◌∷◌, Some, true, false, refl, inl, inr, lit<, arith}
+use Rattle.ds_io.specs.Counts.{raised, Rose}
 use Rattle.ds_io.specs.Ends.{EndsExactly}
 use Rattle.ds_io.specs.Memory.{is_listed}
 
