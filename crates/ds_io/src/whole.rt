@@ -1,4 +1,4 @@
-ghost use Rattle.std.specs.Prelude.{◌≡◌, ℕ, List, ◌+◌, ◌<◌, ◌≤◌, IfOk, OnOk, OnErr, IsErrOf, alloc_error, length, take};
+ghost use Rattle.std.specs.Prelude.{◌≡◌, ℕ, List, ◌+◌, ◌<◌, ◌≤◌, IfOk, OnOk, OnErr, IsErrOf, alloc_error, length, take, vec_len};
 ghost use Rattle.std.specs.Io.KnownBytes.{Consumes, Appends, IsAtEnd};
 ghost use Rattle.ds_io.specs.Counts.{Counts, Rose};
 ghost use Rattle.ds_io.specs.declared.whole.ReadError.TheVariants.{Fault, Memory};
@@ -57,27 +57,9 @@ pub fn read_all<S: Source>(alloc: Global, source: &mut S) -> Result<Vec<u8>, Rea
     ensures memory { IsErrOf result (ReadError.Memory alloc_error) → S.faults source.new ≡ S.faults source.old }
     ensures lost { OnErr result ((bytes : List ℕ) × Consumes (S.left source.old) (S.left source.new) bytes) }
 {
-    let mut piece = vec![in alloc; 0u8; PIECE]?;
-    read_pieces(alloc, source, &mut piece)
-}
-
-// `read_all`, by takes into this buffer.
-fn read_pieces<S: Source>(
-    alloc: Global,
-    source: &mut S,
-    piece: &mut [u8],
-) -> Result<Vec<u8>, ReadError>
-    requires { 0 < length piece.old }
-    ensures ok { IfOk result (λ v. Consumes (S.left source.old) (S.left source.new) v.items) }
-    ensures end { OnOk result (IsAtEnd (S.left source.new)) }
-    ensures few { IfOk result (λ v. length v.items ≤ LIMIT) }
-    ensures counts { OnOk result (S.faults source.new ≡ S.faults source.old) }
-    ensures fault { IsErrOf result ReadError.Fault → Rose (S.faults source.old) (S.faults source.new) }
-    ensures too_long { IsErrOf result ReadError.TooLong → (bytes : List ℕ) × (length bytes ≡ LIMIT + 1) × Consumes (S.left source.old) (S.left source.new) bytes × (S.faults source.new ≡ S.faults source.old) }
-    ensures memory { IsErrOf result (ReadError.Memory alloc_error) → S.faults source.new ≡ S.faults source.old }
-    ensures lost { OnErr result ((bytes : List ℕ) × Consumes (S.left source.old) (S.left source.new) bytes) }
-{
     let mut bytes = Vec::new(alloc);
+    let mut buffer = new_buffer(alloc)?;
+    let piece = buffer.as_mut_slice();
     'pieces: while bytes.len() <= LIMIT {
         let room = (LIMIT + 1 - bytes.len()).min(piece.len());
         match source.take(&mut piece[..room])? {
@@ -86,6 +68,13 @@ fn read_pieces<S: Source>(
         }
     }
     Err(ReadError::TooLong)
+}
+
+// Room for the bytes of one take. A function of its own, since a long list of zeros slows proofs.
+fn new_buffer(alloc: Global) -> Result<Vec<u8>, AllocError>
+    ensures { IfOk result (λ v. vec_len v ≡ PIECE) }
+{
+    vec![in alloc; 0u8; PIECE]
 }
 
 /// Puts all of the bytes on a sink, or a first part of them where it fails.

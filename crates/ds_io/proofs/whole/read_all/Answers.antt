@@ -1,5 +1,5 @@
 use Rattle.ds_io.proofs.Known.{Consumes-then, Consumes-lost}
-use Rattle.ds_io.proofs.whole.read_pieces.Goals as goal
+use Rattle.ds_io.proofs.whole.read_all.Goals as goal
 
 -- where there is no room for a piece, the source lacks that piece and those before it
 pub returns-in_err-extend_from_slice-in_default-clause-lost :
