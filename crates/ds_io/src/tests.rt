@@ -2,6 +2,7 @@ use crate::{
     Failed, LIMIT, MemSink, MemSource, ReadError, ReadSource, Sink, Source, SureSource, WriteSink,
     put_all, read_all,
 };
+use std::alloc::{AllocError, Global};
 use std::test::Fail;
 
 #[test]
@@ -29,14 +30,19 @@ fn puts_fail_where_listed_or_full(rt: HostRuntime) -> Result<(), Fail> {
     Ok(())
 }
 
+// A function of its own, since a long list in sight slows the proof of the test.
+fn long_text(alloc: Global, len: usize) -> Result<Vec<u8>, AllocError> {
+    vec![in alloc; b'x'; len]
+}
+
 #[test]
 fn reads_what_is_left(rt: HostRuntime) -> Result<(), Fail> {
     let alloc = rt.alloc();
     let nothing = read_all(alloc, &mut SureSource::new(Vec::new(alloc)))?;
     assert_eq!(rt; nothing.len(), 0);
-    let mut longest = SureSource::new(vec![in alloc; b'x'; LIMIT]?);
+    let mut longest = SureSource::new(long_text(alloc, LIMIT)?);
     assert_eq!(rt; read_all(alloc, &mut longest)?.len(), LIMIT);
-    let mut longer = SureSource::new(vec![in alloc; b'x'; LIMIT + 1]?);
+    let mut longer = SureSource::new(long_text(alloc, LIMIT + 1)?);
     let answer = read_all(alloc, &mut longer);
     assert!(rt; matches!(&answer, Err(ReadError::TooLong)));
     let mut broken = MemSource::new(b"hello".to_vec(alloc)?, [2u32].to_vec(alloc)?);
