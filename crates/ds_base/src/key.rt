@@ -85,6 +85,13 @@ impl Key {
         })
     }
 
+    /// Whether the key lies below the bound.
+    pub fn is_below_bound(&self) -> bool
+        ensures { result ≡ key_lt self.now bound }
+    {
+        self.bytes.as_slice().cmp(BOUND.as_slice()).is_lt()
+    }
+
     /// The bytes.
     pub fn bytes(&self) -> &[u8]
         ensures value { result.now ≡ self.now }

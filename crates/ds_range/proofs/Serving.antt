@@ -83,10 +83,10 @@ pub lookup_content : (k : List ℕ) (es : List Cell) → content_or (lookup (is_
 lookup_content k [] = refl
 lookup_content k (p ∷ ps) =
     subst (λ t. content_or (cond t (Some p.1) (lookup (is_at (key_cmp k)) ps)) ≡ cell_in (cond (key_eq p.0 k) (Some p) (at_key key_of k ps))) (sym (key_eq_turned k p.0))
-      (elim (key_eq p.0 k) as (λ t. content_or (cond t (Some p.1) (lookup (is_at (key_cmp k)) ps)) ≡ cell_in (cond t (Some p) (at_key key_of k ps))) [
-        | true ↦ refl
-        | false ↦ lookup_content k ps
-      ])
+    (elim (key_eq p.0 k) as (λ t. content_or (cond t (Some p.1) (lookup (is_at (key_cmp k)) ps)) ≡ cell_in (cond t (Some p) (at_key key_of k ps))) [
+      | true ↦ refl
+      | false ↦ lookup_content k ps
+    ])
 
 pub content_some : (k : List ℕ) (es : List Cell) (c : Content) → lookup (is_at (key_cmp k)) es ≡ Some c → c ≡ content_at k es
 content_some k es c h = sym (ap content_or h) ∙ lookup_content k es

@@ -47,13 +47,7 @@ fn at_of(head: &Head, seq: Seq) -> At
 }
 
 /// Adds the row of a key, where a value is seen there.
-fn add_row(
-    alloc: Global,
-    rows: &mut Rows,
-    key: &Key,
-    cell: &Cell,
-    at: At,
-) -> Result<(), AllocError>
+fn add_row(alloc: Global, rows: &mut Rows, key: &Key, cell: &Cell, at: At) -> Result<(), AllocError>
     ensures { OnOk result (rows.new ≡ rows.old ++ one_row key.now (seen at at.seq.0 cell.now) []) }
 {
     if let Some(value) = cell.seen(at) {

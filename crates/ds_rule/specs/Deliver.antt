@@ -1,7 +1,7 @@
 -- What a delivered piece is answered, and what it does.
-use Rattle.std.specs.Prelude.{◌≡◌, ℕ, Bool, true, false, not, ◌&&◌, List, [], ◌∷◌, ◌++◌, map, take, filter, find, Option, Some, None, ◌==◌, if◌then◌else◌, fold}
+use Rattle.std.specs.Prelude.{◌≡◌, ℕ, Bool, true, false, not, ◌&&◌, List, [], ◌∷◌, ◌++◌, map, take, filter, find, Option, Some, None, ◌==◌, if◌then◌else◌}
 use Rattle.std.specs.List.{list_any, list_all}
-use Rattle.ds_base.specs.Order.{key_lt, key_le, bound, max_key, min_key}
+use Rattle.ds_base.specs.Order.{key_lt, key_le}
 use Rattle.ds_base.specs.declared.value.TxnNo.{TxnNo}
 use Rattle.ds_base.specs.declared.value.Value.{Value}
 use Rattle.ds_desc.specs.declared.desc.Info.{Info}
@@ -85,18 +85,16 @@ has_id id r = r.info.desc.id == id
 abbrev pub with_cells : ℕ → List Cell → World → World
 with_cells id cells w = record w { ranges = replaced (has_id id) (λ r. record r { cells = cells }) w.ranges }
 
-abbrev pub overlaps : List ℕ → List ℕ → Range → Bool
-overlaps s e r = key_lt (max_key s (start_of r)) (min_key e (end_of r))
-
-abbrev pub least_start : List Item → List ℕ
-least_start items = fold (λ k i. min_key k (span_of i.request).start) bound items
-
-abbrev pub greatest_end : List Item → List ℕ
-greatest_end items = fold (λ k i. max_key k (span_of i.request).end) [] items
+-- some item begins below the range's end, and some item ends above its start: the range overlaps the least span
+-- that holds all items
+abbrev pub overlaps : List Item → Range → Bool
+overlaps items r =
+    list_any (λ i. key_lt (span_of i.request).start (end_of r)) items
+    && list_any (λ i. key_lt (start_of r) (span_of i.request).end) items
 
 -- the ranges that overlap the least span over all items, the first eight
 abbrev pub mismatch_rows : World → Piece → List Info
-mismatch_rows w p = take 8 (map (λ r. r.info) (filter (overlaps (least_start p.items) (greatest_end p.items)) (in_order p.dir w.ranges)))
+mismatch_rows w p = take 8 (map (λ r. r.info) (filter (overlaps p.items) (in_order p.dir w.ranges)))
 
 -- a record that is committed or aborted takes no more pieces
 abbrev pub status_stops : Option TxnRecord → Option Failure

@@ -1,3 +1,4 @@
+pub mod Begin
 pub mod Clauses
 pub mod Covered
 pub mod Deliver

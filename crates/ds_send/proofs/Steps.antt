@@ -29,7 +29,7 @@ none_of [] h = refl
 none_of (x ∷ xs) h = cc
 
 pub min_above : (m e r : List ℕ) → key_lt m e ≡ true → key_lt m r ≡ true → key_lt m (min_key e r) ≡ true
-min_above m e r p q = elim (key_lt r e) as (λ t. key_lt m (cond t r e) ≡ true) [ | true ↦ q | false ↦ p ]
+min_above m e r p q = elim (key_lt r e) as (λ t. key_lt m (cond t r e) ≡ true) [ true ↦ q | false ↦ p ]
 
 pub min_within : (e r : List ℕ) → key_le e e ≡ true → key_le (min_key e r) e ≡ true
 min_within e r same =
