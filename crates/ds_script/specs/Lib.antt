@@ -4,3 +4,6 @@ pub mod Happenings
 pub mod Limits
 pub mod Lines
 pub mod Requests
+pub mod Rules
+pub mod Script
+pub mod ScriptGives
