@@ -1,0 +1,6 @@
+pub mod Examples
+pub mod Fault
+pub mod Lists
+pub mod Members
+pub mod Parts
+pub mod Scalars

@@ -1,0 +1,9 @@
+pub mod Events
+pub mod Forms
+pub mod Happenings
+pub mod Limits
+pub mod Lines
+pub mod Requests
+pub mod Rules
+pub mod Script
+pub mod ScriptGives
