@@ -5,6 +5,8 @@ pub mod lines;
 pub mod printed;
 pub mod ranges;
 pub mod replies;
+#[cfg(test)]
+mod tests;
 pub mod to_json;
 
 pub use lines::{answer_object, closed_object, fault_object, restarted_object, step_object};
