@@ -1,0 +1,6 @@
+pub mod Lines
+pub mod Log
+pub mod Prints
+pub mod Ranges
+pub mod Replies
+pub mod Simple

@@ -1,0 +1,259 @@
+//! Lines as they are printed.
+ghost use Rattle.std.specs.Prelude.{◌≡◌, [], ◌∷◌, IfOk};
+
+use crate::{answer_object, closed_object, fault_text, restarted_object, step_object, text};
+use ds_base::{Dir, Key, ListOf, Seq, Span, Stamp, Text, Value};
+use ds_desc::{Info, Lease, Looked, Nodes, RangeDesc, Refusal};
+use ds_kind::kinds::{EndTxnArgs, GetArgs, ScanArgs};
+use ds_kind::{Body, Flight, Head, Illegal, Item, Piece, Reply, Request, Row, TxnStatus};
+use ds_rule::{Answer, Entry, JournalStep, Outcome};
+use std::alloc::Global;
+use std::test::Fail;
+
+fn key(alloc: Global, bytes: &[u8]) -> Result<Key, Fail> {
+    Ok(Key::new(alloc, bytes).map_err(|_| "a key")?)
+}
+
+fn span(alloc: Global, start: &[u8], end: &[u8]) -> Result<Span, Fail> {
+    Ok(Span::new(key(alloc, start)?, key(alloc, end)?).map_err(|_| "a span")?)
+}
+
+fn one<T: Drop>(alloc: Global, item: T) -> Result<ListOf<T>, Fail>
+    ensures { IfOk result (λ list. list ≡ item ∷ []) }
+{
+    let mut list = ListOf::new(alloc);
+    list.push(alloc, item)?;
+    Ok(list)
+}
+
+fn info(alloc: Global) -> Result<Info, Fail> {
+    Ok(Info {
+        desc: RangeDesc {
+            id: 1,
+            span: span(alloc, b"", b"g")?,
+            nodes: Nodes::of(alloc, &[1, 2, 3]),
+            generation: 1,
+        },
+        lease: Lease { node: 2, number: 1 },
+    })
+}
+
+/// A piece of the request alone.
+fn piece(alloc: Global, left: Option<u32>, request: Request) -> Result<Piece, Fail> {
+    let item = Item {
+        pos: 0,
+        seq: Seq(2),
+        request,
+    };
+    Ok(Piece {
+        head: Head {
+            at: Stamp(10),
+            txn: None,
+            left,
+            epoch: 0,
+        },
+        range: 1,
+        items: one(alloc, item)?,
+        dir: Dir::Forward,
+    })
+}
+
+fn look(alloc: Global) -> Result<JournalStep, Fail> {
+    Ok(JournalStep::Look {
+        key: key(alloc, b"a")?,
+        dir: Dir::Forward,
+        looked: Looked::Rows(one(alloc, info(alloc)?)?),
+    })
+}
+
+#[test]
+fn a_lookup(rt: HostRuntime) -> Result<(), Fail> {
+    let alloc = rt.alloc();
+    let line = step_object(alloc, 6, 1, &look(alloc)?)?.to_string(alloc)?;
+    assert!(rt;
+        line.as_str()
+            == "{\"dir\":\"forward\",\"key\":\"a\",\"line\":6,\"look\":[[1,\"\",\"g\",1,[1,2,3],2,1]],\"step\":1}"
+    );
+    Ok(())
+}
+
+fn rows(alloc: Global, value: Value, resume: Option<Span>) -> Result<Reply, Fail> {
+    let row = Row {
+        key: key(alloc, b"b")?,
+        value,
+    };
+    Ok(Reply {
+        body: Body::Rows(one(alloc, row)?),
+        resume,
+    })
+}
+
+#[test]
+fn a_send_that_is_done(rt: HostRuntime) -> Result<(), Fail> {
+    let alloc = rt.alloc();
+    let start = key(alloc, b"a")?;
+    let end = key(alloc, b"g")?;
+    let scan = Request::Scan(ScanArgs { start, end });
+    let reply = rows(alloc, Value::Text(Text::of(alloc, "x")?), None)?;
+    let step = JournalStep::Send {
+        node: 1,
+        piece: piece(alloc, None, scan)?,
+        answer: Answer::Done(one(alloc, reply)?),
+    };
+    let line = step_object(alloc, 6, 2, &step)?.to_string(alloc)?;
+    assert!(rt;
+        line.as_str()
+            == "{\"left\":null,\"line\":6,\"node\":1,\"piece\":[[0,\"a\",\"g\",2]],\"range\":1,\"send\":{\"done\":[{\"rows\":[[\"b\",\"x\"]]}]},\"step\":2}"
+    );
+    Ok(())
+}
+
+/// A commit that waits for a write of `q`.
+fn staged_end(alloc: Global) -> Result<Request, Fail> {
+    let flight = Flight {
+        key: key(alloc, b"q")?,
+        seq: Seq(2),
+    };
+    Ok(Request::EndTxn(EndTxnArgs {
+        key: key(alloc, b"b")?,
+        commit: true,
+        one_phase: false,
+        parallel: true,
+        in_flight: one(alloc, flight)?,
+    }))
+}
+
+#[test]
+fn a_staged_send(rt: HostRuntime) -> Result<(), Fail> {
+    let alloc = rt.alloc();
+    let step = JournalStep::Send {
+        node: 1,
+        piece: piece(alloc, Some(7), staged_end(alloc)?)?,
+        answer: Answer::Lost,
+    };
+    let line = step_object(alloc, 3, 2, &step)?.to_string(alloc)?;
+    assert!(rt;
+        line.as_str()
+            == "{\"left\":7,\"line\":3,\"node\":1,\"piece\":[[0,\"b\",\"b\\u0000\",2]],\"range\":1,\"send\":\"lost\",\"staged\":true,\"step\":2}"
+    );
+    Ok(())
+}
+
+#[test]
+fn a_refused_send(rt: HostRuntime) -> Result<(), Fail> {
+    let alloc = rt.alloc();
+    let get = Request::Get(GetArgs {
+        key: key(alloc, b"a")?,
+    });
+    let step = JournalStep::Send {
+        node: 1,
+        piece: piece(alloc, None, get)?,
+        answer: Answer::Refused(Refusal::NotLease {
+            lease: Lease { node: 2, number: 3 },
+        }),
+    };
+    let line = step_object(alloc, 3, 1, &step)?.to_string(alloc)?;
+    assert!(rt;
+        line.as_str()
+            == "{\"left\":null,\"line\":3,\"node\":1,\"piece\":[[0,\"a\",\"a\\u0000\",2]],\"range\":1,\"send\":{\"lease\":[2,3]},\"step\":1}"
+    );
+    Ok(())
+}
+
+#[test]
+fn rows_with_a_rest(rt: HostRuntime) -> Result<(), Fail> {
+    let alloc = rt.alloc();
+    let resume = span(alloc, b"f\0", b"z")?;
+    let reply = rows(alloc, Value::Int(-1), Some(resume))?;
+    let outcome = Outcome::Ok {
+        replies: one(alloc, reply)?,
+    };
+    let line = answer_object(alloc, 4, &outcome)?.to_string(alloc)?;
+    assert!(rt;
+        line.as_str()
+            == "{\"answer\":{\"ok\":[{\"resume\":[\"f\\u0000\",\"z\"],\"rows\":[[\"b\",-1]]}]},\"line\":4}"
+    );
+    Ok(())
+}
+
+#[test]
+fn an_illegal_batch(rt: HostRuntime) -> Result<(), Fail> {
+    let alloc = rt.alloc();
+    let outcome = Outcome::Illegal(Illegal::LimitOrder { i: 1 });
+    let line = answer_object(alloc, 3, &outcome)?.to_string(alloc)?;
+    assert!(rt; line.as_str() == "{\"answer\":{\"illegal\":{\"code\":10,\"i\":1}},\"line\":3}");
+    Ok(())
+}
+
+#[test]
+fn bytes_of_a_key(rt: HostRuntime) -> Result<(), Fail> {
+    let alloc = rt.alloc();
+    let outcome = Outcome::WriteTooOld {
+        i: 0,
+        key: key(alloc, b"\x00\"\\\x7f\x80\xff")?,
+        stamp: Stamp(5),
+    };
+    let line = answer_object(alloc, 2, &outcome)?.to_string(alloc)?;
+    assert!(rt;
+        line.as_str()
+            == "{\"answer\":{\"write_too_old\":{\"i\":0,\"key\":\"\\u0000\\\"\\\\\u{7f}\u{80}\u{ff}\",\"stamp\":5}},\"line\":2}"
+    );
+    Ok(())
+}
+
+#[test]
+fn a_text_with_a_newline(rt: HostRuntime) -> Result<(), Fail> {
+    let alloc = rt.alloc();
+    let outcome = Outcome::ConditionFailed {
+        i: 1,
+        actual: Some(Value::Text(Text::of(alloc, "a\nb")?)),
+    };
+    let line = answer_object(alloc, 2, &outcome)?.to_string(alloc)?;
+    assert!(rt;
+        line.as_str()
+            == "{\"answer\":{\"condition_failed\":{\"actual\":\"a\\nb\",\"i\":1}},\"line\":2}"
+    );
+    Ok(())
+}
+
+#[test]
+fn closes_and_restarts(rt: HostRuntime) -> Result<(), Fail> {
+    let alloc = rt.alloc();
+    let closed = closed_object(alloc, 7, TxnStatus::Aborted)?.to_string(alloc)?;
+    assert!(rt; closed.as_str() == "{\"close\":\"aborted\",\"line\":7}");
+    let restarted = restarted_object(alloc, 4, 1)?.to_string(alloc)?;
+    assert!(rt; restarted.as_str() == "{\"epoch\":1,\"line\":4}");
+    Ok(())
+}
+
+#[test]
+fn a_log(rt: HostRuntime) -> Result<(), Fail> {
+    let alloc = rt.alloc();
+    let lost = JournalStep::Look {
+        key: key(alloc, b"a")?,
+        dir: Dir::Reverse,
+        looked: Looked::Lost,
+    };
+    let batch = Entry::Batch {
+        line: 2,
+        steps: one(alloc, lost)?,
+        outcome: Outcome::RetryExhausted {
+            refused: 0,
+            lost: 1,
+        },
+    };
+    let printed = text(alloc, &one(alloc, batch)?)?;
+    assert!(rt;
+        printed.as_str()
+            == "{\"dir\":\"reverse\",\"key\":\"a\",\"line\":2,\"look\":\"lost\",\"step\":1}\n{\"answer\":{\"retry_exhausted\":{\"lost\":1,\"refused\":0}},\"line\":2}\n"
+    );
+    Ok(())
+}
+
+#[test]
+fn a_fault(rt: HostRuntime) -> Result<(), Fail> {
+    let alloc = rt.alloc();
+    let printed = fault_text(alloc, "json", 4)?;
+    assert!(rt; printed.as_str() == "{\"fault\":\"json\",\"line\":4}\n");
+    Ok(())
+}
