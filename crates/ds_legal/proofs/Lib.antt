@@ -1,0 +1,5 @@
+pub mod GroupFacts
+pub mod LegalFacts
+pub mod MixFacts
+pub mod NumberFacts
+pub mod RuleFacts

@@ -1,0 +1,7 @@
+pub mod Asks
+pub mod Groups
+pub mod Legal
+pub mod Mix
+pub mod Numbers
+pub mod Parts
+pub mod Rules
