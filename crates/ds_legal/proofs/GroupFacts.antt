@@ -1,6 +1,6 @@
 -- Facts on the first element at which something holds, and on groups of neighbours.
-use Rattle.std.proofs.Common.{◌≡◌, ℕ, suc, ◌+◌, ◌<◌, ◌≤◌, Bool, true, false, not, cond, List, [], ◌∷◌, ◌++◌, length, get_or, take, drop, Some, refl, sym, ap, ◌∙◌, append_assoc, arith}
-use Rattle.std.proofs.lemmas.List.{at_drop_more, take_more, length-take-le}
+use Rattle.std.proofs.Common.{◌≡◌, ℕ, suc, ◌+◌, ◌<◌, ◌≤◌, Bool, true, false, not, cond, List, [], ◌∷◌, ◌++◌, length, map, get_or, take, drop, Some, refl, sym, ap, ◌∙◌, append_assoc, arith}
+use Rattle.std.proofs.lemmas.List.{at_drop_more, take_more, length-take-le, map_push}
 use Rattle.std.specs.List.{flat_map, All}
 use Rattle.std.proofs.Common.{nat_lt}
 use Rattle.std.proofs.lemmas.Bool.Decides.{nat_tests}
@@ -75,3 +75,20 @@ groups_split j [] h = refl
 groups_split j (x ∷ xs) h =
     groups_from_split j (x ∷ []) xs
     ∙ ap (λ t. is_some (cond (not t) (Some 0) (first_after (λ g y. not (j g y)) (x ∷ []) xs))) (sym (h x))
+
+pub groups_some : {A : Type 0} (j : List A → A → Bool) (xs : List A) → 0 < length xs → 0 < length (groups j xs)
+groups_some j [] h = absurd (omega arith)
+groups_some j (x ∷ xs) h = groups_from_some j (x ∷ []) xs
+
+-- groups of what the elements have, and groups of the elements
+groups_from_map : {A B : Type 0} (f : A → B) (j : List B → B → Bool) (last xs : List A) → map (map f) (groups_from (λ g x. j (map f g) (f x)) last xs) ≡ groups_from j (map f last) (map f xs)
+groups_from_map f j last [] = refl
+groups_from_map f j last (x ∷ xs) =
+    elim (j (map f last) (f x)) as (λ t. map (map f) (cond t (groups_from (λ g y. j (map f g) (f y)) (last ++ x ∷ []) xs) (last ∷ groups_from (λ g y. j (map f g) (f y)) (x ∷ []) xs)) ≡ cond t (groups_from j (map f last ++ f x ∷ []) (map f xs)) (map f last ∷ groups_from j (f x ∷ []) (map f xs))) [
+      | true ↦ groups_from_map f j (last ++ x ∷ []) xs ∙ ap (λ g. groups_from j g (map f xs)) (map_push f last x)
+      | false ↦ ap (λ gs. map f last ∷ gs) (groups_from_map f j (x ∷ []) xs)
+    ]
+
+pub groups_map : {A B : Type 0} (f : A → B) (j : List B → B → Bool) (xs : List A) → map (map f) (groups (λ g x. j (map f g) (f x)) xs) ≡ groups j (map f xs)
+groups_map f j [] = refl
+groups_map f j (x ∷ xs) = groups_from_map f j (x ∷ []) xs

@@ -71,3 +71,7 @@ pub record AreParts (split_end : Bool) (rs : List Request) (ss : List Seq) (ps :
   pub positions : map (λ i. i.pos) (all_items ps) ≡ range_with_len 0 (length rs)
   pub numbers : map (λ i. i.seq) (all_items ps) ≡ ss
   pub each : All (IsPart split_end) ps
+
+-- each request of the parts passes the test
+abbrev pub EachRequest : (Request → Bool) → List Part → Type 0
+EachRequest test ps = All (λ p. list_all test (requests_of p.items) ≡ true) ps

@@ -1,9 +1,11 @@
 //! The parts that a batch is sent in.
-ghost use Rattle.std.specs.Prelude.{◌≡◌, ◌≤◌, ◌++◌, ◌∷◌, ◌&&◌, not, [], List, map, length, IfOk, OnOk};
+ghost use Rattle.std.specs.Prelude.{◌≡◌, ◌≤◌, ◌++◌, ◌∷◌, ◌&&◌, not, true, [], List, map, length, IfOk, OnOk};
 ghost use Rattle.ds_kind.specs.declared.batch.Item.{Item};
-ghost use Rattle.ds_legal.specs.Asks.{is_end};
+ghost use Rattle.ds_legal.specs.Asks.{is_end, has_proper_span, knows_limit, acts};
 ghost use Rattle.ds_legal.specs.Groups.{groups_from};
-ghost use Rattle.ds_legal.specs.Parts.{may_join, item_may_join, items_from, part_of, parts_of, requests_of};
+ghost use Rattle.ds_legal.specs.Parts.{may_join, item_may_join, items_from, part_of, parts_of, requests_of, AreParts, EachRequest};
+ghost use Rattle.std.specs.List.{list_any};
+ghost use Rattle.std.specs.Option.{is_some};
 
 use crate::asks;
 use crate::legal::Legal;
@@ -116,6 +118,10 @@ pub fn parts(
 ) -> Result<Parts, AllocError>
     requires { length seqs.now ≡ length legal.now.requests }
     ensures parts { IfOk result (λ ps. ps ≡ parts_of split_end legal.now.requests seqs.now) }
+    ensures law { IfOk result (λ ps. AreParts split_end legal.now.requests seqs.now ps) }
+    ensures spans { IfOk result (λ ps. EachRequest has_proper_span ps) }
+    ensures limited { is_some legal.now.limit ≡ true → IfOk result (λ ps. (length ps ≡ 1) × EachRequest knows_limit ps) }
+    ensures acting { is_some legal.now.at ≡ true → list_any acts legal.now.requests ≡ true → IfOk result (λ ps. length ps ≡ 1) }
 {
     let requests = legal.batch().requests.as_slice();
     let seqs = seqs.as_slice();
