@@ -1,11 +1,12 @@
 -- Facts on the first element at which something holds, and on groups of neighbours.
-use Rattle.std.proofs.Common.{◌≡◌, ℕ, suc, ◌+◌, ◌<◌, ◌≤◌, Bool, true, false, not, cond, List, [], ◌∷◌, ◌++◌, length, map, get_or, take, drop, Some, refl, sym, ap, ◌∙◌, append_assoc, arith}
-use Rattle.std.proofs.lemmas.List.{at_drop_more, take_more, length-take-le, map_push}
+use Rattle.std.proofs.Common.{◌≡◌, ℕ, suc, ◌+◌, ◌<◌, ◌≤◌, Bool, true, false, not, cond, List, [], ◌∷◌, ◌++◌, length, map, get_or, take, drop, Some, None, refl, sym, subst, ap, ◌∙◌, append_assoc, arith, zero, below_more}
+use Rattle.std.proofs.lemmas.List.{at_drop_more, at_drop_all, get_or_default, take_more, length-take-le, map_push}
 use Rattle.std.specs.List.{flat_map, All}
 use Rattle.std.proofs.Common.{nat_lt}
 use Rattle.std.proofs.lemmas.Bool.Decides.{nat_tests}
 use Rattle.std.proofs.lemmas.List.Elements.{All-nil, All-cons}
 use Rattle.std.specs.Option.{is_some}
+use Rattle.ds_legal.specs.Firsts.{Answers, IsFirst, FindsFirst}
 use Rattle.ds_legal.specs.Groups.{first_after, first_where, groups_from, groups}
 
 -- a step of a search that has come to the place i
@@ -92,3 +93,54 @@ groups_from_map f j last (x ∷ xs) =
 pub groups_map : {A B : Type 0} (f : A → B) (j : List B → B → Bool) (xs : List A) → map (map f) (groups (λ g x. j (map f g) (f x)) xs) ≡ groups j (map f xs)
 groups_map f j [] = refl
 groups_map f j (x ∷ xs) = groups_from_map f j (x ∷ []) xs
+
+-- a search that has passed the first i, with n to come
+
+element : {A : Type 0} (xs : List A) → 0 < length xs → A
+element [] h = absurd (omega arith)
+element (x ∷ xs) h = x
+
+answers_at : {A : Type 0} (test : List A → A → Bool) (xs : List A) (i : ℕ) (d : A) (answer : Bool) → i < length xs → test (take i xs) (get_or xs i d) ≡ answer → Answers test xs i answer
+answers_at test xs i d answer low h = λ e. ap (test (take i xs)) (get_or_default xs i e d low) ∙ h
+
+past_end : {A : Type 0} (test : List A → A → Bool) (xs : List A) (i : ℕ) → length xs ≤ i → first_after test (take i xs) (drop i xs) ≡ None
+past_end test xs i h = at_drop_all (first_after test (take i xs)) xs i h
+
+found_after : {A : Type 0} (test : List A → A → Bool) (xs : List A) (n i j : ℕ) → n + i ≡ length xs → ((k : ℕ) → k < i → Answers test xs k false) → first_after test (take i xs) (drop i xs) ≡ Some j → IsFirst test xs j
+found_after test xs zero i j size past h = let none = past_end test xs i (omega arith) in absurd (not_some j (sym none ∙ h))
+  where
+    not_some : (m : ℕ) → None ≡ Some m → ⊥
+    not_some m e = cc
+found_after test xs (suc n) i j size past h =
+    let low : i < length xs = omega arith in
+    let d = element xs (omega arith) in
+    elim (test (take i xs) (get_or xs i d)) as (λ t. test (take i xs) (get_or xs i d) ≡ t → IsFirst test xs j) [
+      | true ↦ λ e.
+          let same : i ≡ j = one_some i j (sym (first_found test xs i d low e) ∙ h) in
+          subst (IsFirst test xs) same (record { within = low; here = answers_at test xs i d true low e; none_before = past })
+      | false ↦ λ e.
+          found_after test xs n (i + 1) j (omega arith) (below_more (λ k. Answers test xs k false) i past (answers_at test xs i d false low e)) (sym (first_passed test xs i d low e) ∙ h)
+    ] refl
+  where
+    one_some : (m k : ℕ) → Some m ≡ Some k → m ≡ k
+    one_some m k e = cc
+
+none_after : {A : Type 0} (test : List A → A → Bool) (xs : List A) (n i : ℕ) → n + i ≡ length xs → ((k : ℕ) → k < i → Answers test xs k false) → first_after test (take i xs) (drop i xs) ≡ None → (k : ℕ) → k < length xs → Answers test xs k false
+none_after test xs zero i size past h = λ k low. past k (omega arith)
+none_after test xs (suc n) i size past h =
+    let low : i < length xs = omega arith in
+    let d = element xs (omega arith) in
+    elim (test (take i xs) (get_or xs i d)) as (λ t. test (take i xs) (get_or xs i d) ≡ t → (k : ℕ) → k < length xs → Answers test xs k false) [
+      | true ↦ λ e. absurd (not_some i (sym h ∙ first_found test xs i d low e))
+      | false ↦ λ e.
+          none_after test xs n (i + 1) (omega arith) (below_more (λ k. Answers test xs k false) i past (answers_at test xs i d false low e)) (sym (first_passed test xs i d low e) ∙ h)
+    ] refl
+  where
+    not_some : (m : ℕ) → None ≡ Some m → ⊥
+    not_some m e = cc
+
+pub finds_first : {A : Type 0} (test : List A → A → Bool) (xs : List A) → FindsFirst test xs
+finds_first test xs = record {
+  found = λ i h. found_after test xs (length xs) 0 i (omega arith) (λ k low. absurd (omega arith)) h;
+  none = λ h. none_after test xs (length xs) 0 (omega arith) (λ k low. absurd (omega arith)) h;
+}

@@ -1,3 +1,4 @@
+pub mod Examples
 pub mod GroupFacts
 pub mod LegalFacts
 pub mod MixFacts

@@ -1,4 +1,5 @@
 pub mod Asks
+pub mod Firsts
 pub mod Groups
 pub mod Legal
 pub mod Mix

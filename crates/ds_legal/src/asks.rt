@@ -6,14 +6,17 @@ ghost use Rattle.ds_legal.specs.Asks as Ask;
 use ds_base::Key;
 use ds_kind::{Bounds, Request};
 
+/// No point lies at or above it.
 const BOUND: [u8; 2] = [255, 255];
 
+/// Whether the key after this one is a key too.
 fn has_room(key: &Key) -> bool
     ensures { result ≡ Ask.has_room key.now }
 {
     key.bytes().len() <= 64 && key.bytes().cmp(BOUND.as_slice()).is_lt()
 }
 
+/// Whether a range rises, or a point's key has room.
 fn has_proper_span(request: &Request) -> bool
     ensures { result ≡ Ask.has_proper_span request.now }
 {
@@ -56,6 +59,7 @@ fn is_delete_range(request: &Request) -> bool
     matches!(request, Request::DeleteRange(_))
 }
 
+/// Whether it writes, or stands alone.
 fn acts(request: &Request) -> bool
     ensures { result ≡ Ask.acts request.now }
 {

@@ -1,5 +1,7 @@
 //! The first request at which something holds of it and those before it.
-ghost use Rattle.std.specs.Prelude.{◌≡◌, ◌<◌, length, IfSome};
+ghost use Rattle.std.specs.Prelude.{◌≡◌, ◌<◌, length, IfSome, List, Bool};
+ghost use Rattle.ds_kind.specs.declared.request.Request.{Request};
+ghost use Rattle.ds_legal.specs.Firsts.{FindsFirst};
 ghost use Rattle.ds_legal.specs.Asks.{overtakes};
 ghost use Rattle.ds_legal.specs.Groups.{first_where};
 ghost use Rattle.ds_legal.specs.Rules.{is_misfit, is_overtaken};
@@ -58,3 +60,8 @@ pub fn first_overtaken(requests: &[Request]) -> Option<usize>
     }
     None
 }
+
+/// Does nothing: its clause tells what it means to be named by a search for the first request.
+pub fn first_is_least()
+    ensures { (test : List Request → Request → Bool) (requests : List Request) → FindsFirst test requests }
+{}

@@ -4,11 +4,13 @@
 
 mod asks;
 pub mod counting;
-mod firsts;
+pub mod firsts;
 pub mod grouping;
 pub mod legal;
-pub mod mix;
+mod mix;
 mod rules;
+#[cfg(test)]
+mod tests;
 
 pub use counting::numbers;
 pub use grouping::parts;
