@@ -1,0 +1,17 @@
+//! What a batch must be like before anything is sent, the sequence numbers of its requests, and the
+//! parts that it is sent in.
+#![tactic(auto)]
+
+mod asks;
+pub mod counting;
+pub mod firsts;
+pub mod grouping;
+pub mod legal;
+mod mix;
+mod rules;
+#[cfg(test)]
+mod tests;
+
+pub use counting::numbers;
+pub use grouping::parts;
+pub use legal::{Legal, check};
