@@ -1,3 +1,4 @@
 pub mod Begins
+pub mod Places
 pub mod RowSteps
 pub mod Sending

@@ -1,15 +1,17 @@
 //! The ranges of a cluster.
-ghost use Rattle.std.specs.Prelude.{◌≡◌, ◌<◌, ◌-◌, ◌^◌, ◌==◌, true, length, find, map, IfOk, OnOk, OnErr};
+ghost use Rattle.std.specs.Prelude.{◌≡◌, ◌<◌, ◌-◌, ◌^◌, ◌==◌, true, length, find, position, map, IfOk, OnOk, OnErr};
 ghost use Rattle.std.specs.Option.{option_copied};
 ghost use Rattle.std.specs.List.{list_all};
 ghost use Rattle.ds_desc.specs.Contains.{first_contains, lies_ahead};
 ghost use Rattle.ds_rule.specs.Begin.{ranges_of, tiles};
-ghost use Rattle.ds_rule.specs.Deliver.{answer_at, stops, deliver_answer, has_id, txn_of, status_stops};
+ghost use Rattle.ds_rule.specs.Deliver.{answer_at, stops, deliver_answer, has_id, txn_of, status_stops, replaced};
+ghost use Rattle.ds_rule.specs.Moves.{holds_key, put_cell};
+ghost use Rattle.ds_cell.specs.Change.{after_foreign};
 ghost use Rattle.ds_sim.specs.State.{world_of, rows_of};
 
 use crate::begin::first_ranges;
 use crate::rows::{overlapping, rows_at};
-use ds_base::{Dir, Key, TxnNo};
+use ds_base::{Dir, Key, Stamp, TxnNo, Value};
 use ds_desc::{Infos, Refusal};
 use ds_kind::{Failure, Head, Piece};
 use ds_range::RangeState;
@@ -104,6 +106,19 @@ fn answer_of(
     }
 }
 
+fn holds_key(range: &RangeState, key: &Key) -> bool
+    ensures { result ≡ holds_key key.now range.now }
+{
+    range.info().desc.span.contains(key)
+}
+
+/// Where the range that holds the key stands.
+fn place_of(ranges: &[RangeState], key: &Key) -> Option<usize>
+    ensures { result ≡ position (holds_key key.now) ranges.now }
+{
+    ranges.iter().position(|range| holds_key(range, key))
+}
+
 impl Ranges {
     /// The ranges as the cluster begins, with ids from 1.
     #[tactic(auto, using(crate::proofs::Begins::tiled))]
@@ -125,6 +140,27 @@ impl Ranges {
     {
         key.bytes();
         rows_at(alloc, self.items.as_slice(), key, dir)
+    }
+
+    /// A write of another client, at the range that holds the key. Want of memory leaves all as it
+    /// was.
+    pub fn foreign(
+        &mut self,
+        alloc: Global,
+        key: &Key,
+        stamp: Stamp,
+        value: Option<Value>,
+    ) -> Result<(), AllocError>
+        ensures ok { OnOk result (self.new ≡ replaced (holds_key key.now) (λ r. record r { cells = put_cell key.now (after_foreign (record { stamp = stamp; value = value })) r.cells }) self.old) }
+        ensures err { OnErr result (self.new ≡ self.old) }
+    {
+        match place_of(self.items.as_slice(), key) {
+            Some(i) => {
+                let range = &mut self.items[i];
+                range.foreign(alloc, key, stamp, value)
+            }
+            None => Ok(()),
+        }
     }
 
     /// What the node answers the piece, where these are the transactions' records.

@@ -13,6 +13,7 @@ use ds_rule::{
     Answer, ClusterRange, JournalStep, JournalSteps, RecordStatus, Records, TxnRecord, Wire,
 };
 use std::alloc::{AllocError, Global};
+use std::mem;
 
 /// The simulated cluster, between and in the blocks of its batches.
 #[derive(Drop)]
@@ -89,6 +90,72 @@ impl Sim {
             count: 0,
             refused: 0,
         })
+    }
+}
+
+/// Settles the last record, and tells the status that it ends with.
+fn settle_last(records: &mut Vec<TxnRecord>) -> TxnStatus {
+    match records.last_mut() {
+        Some(record) => match record.status {
+            RecordStatus::Committed => TxnStatus::Committed,
+            RecordStatus::Pending | RecordStatus::Aborted | RecordStatus::Staging(_) => {
+                record.status = RecordStatus::Aborted;
+                TxnStatus::Aborted
+            }
+        },
+        None => TxnStatus::Aborted,
+    }
+}
+
+impl Sim {
+    /// A write of another client. Want of memory leaves all as it was.
+    pub fn write(
+        &mut self,
+        alloc: Global,
+        key: &Key,
+        stamp: Stamp,
+        value: Option<Value>,
+    ) -> Result<(), AllocError> {
+        self.ranges.foreign(alloc, key, stamp, value)?;
+        self.count = self.count.saturating_add(1);
+        Ok(())
+    }
+
+    /// A transaction begins: its record is pending.
+    pub fn begin(&mut self, alloc: Global, txn: TxnNo, stamp: Stamp) -> Result<(), AllocError> {
+        self.records.push(
+            alloc,
+            TxnRecord {
+                txn,
+                stamp,
+                epoch: 0,
+                status: RecordStatus::Pending,
+            },
+        )
+    }
+
+    /// A block begins: no step stands in it yet, and its foreign writes lie above the floor.
+    pub fn start_block(&mut self, alloc: Global, floor: Stamp)
+        ensures { self.new.steps ≡ [] }
+    {
+        self.steps = JournalSteps::new(alloc);
+        self.floor = floor;
+    }
+
+    /// The block's steps, in order.
+    pub fn end_block(&mut self, alloc: Global) -> JournalSteps
+        ensures { result ≡ self.old.steps }
+    {
+        mem::replace(&mut self.steps, JournalSteps::new(alloc))
+    }
+
+    /// The transaction is settled: a record that is not committed becomes aborted. The status is
+    /// the record's.
+    pub fn close(&mut self, alloc: Global) -> TxnStatus {
+        let mut records = mem::replace(&mut self.records, Records::new(alloc)).into_vec();
+        let status = settle_last(&mut records);
+        self.records = Records::from_vec(records);
+        status
     }
 }
 
