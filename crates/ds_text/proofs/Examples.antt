@@ -1,5 +1,5 @@
 -- Worked examples of the definitions.
-use Rattle.std.proofs.Common.{◌≡◌, List, [], ◌∷◌, ◌++◌, codes, true, false, Some, None, refl}
+use Rattle.std.proofs.Common.{◌≡◌, [], ◌∷◌, ◌++◌, codes, false, Some, None, refl}
 use Rattle.std.specs.Fmt.{digits}
 use Rattle.serde_json.specs.Data.{member, object, no_members}
 use Rattle.serde_json.specs.Written.{compact_text}
@@ -15,7 +15,7 @@ use Rattle.ds_rule.specs.declared.journal.JournalStep.TheVariants.{Look}
 use Rattle.ds_rule.specs.declared.journal.Entry.TheVariants.{Batch}
 use Rattle.ds_text.specs.Simple.{nat, key_data, list_data, span_data}
 use Rattle.ds_text.specs.Replies.{reply_data}
-use Rattle.ds_text.specs.Lines.{illegal_data, close_line, step_data, answer_line, has_text, is_staged, waits}
+use Rattle.ds_text.specs.Lines.{illegal_data, close_line, step_data, answer_line, waits}
 use Rattle.ds_text.specs.Log.{line_text, objects_of, has_texts, text_of}
 
 a_close : line_text (close_line 7 Aborted) ≡ codes "{\"close\":\"aborted\",\"line\":7}" ++ 10 ∷ []

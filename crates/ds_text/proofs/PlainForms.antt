@@ -1,6 +1,5 @@
 -- No object of a text has a float, and none nests deep.
-use Rattle.std.proofs.Common.{◌≡◌, ℕ, suc, ◌≤◌, List, [], ◌∷◌, Bool, true, false, Option, Some, None, refl, lit≤}
-use Rattle.serde_json.specs.Data.{Data, object, no_members, boolean}
+use Rattle.std.proofs.Common.{ℕ, suc, List, Bool, true, false, Option, lit≤}
 use Rattle.serde_json.specs.Read.{max_depth}
 use Rattle.ds_base.specs.Order.{Extent}
 use Rattle.ds_base.specs.declared.value.Dir.{Dir}
@@ -30,7 +29,7 @@ use Rattle.ds_rule.specs.declared.answer.Outcome.TheVariants as outcomes
 use Rattle.ds_rule.specs.declared.journal.JournalStep.{JournalStep}
 use Rattle.ds_rule.specs.declared.journal.JournalStep.TheVariants as steps
 use Rattle.ds_text.specs.Simple.{nat, key_data, value_data, list_data, span_data, with_member}
-use Rattle.ds_text.specs.Replies.{row_data, body_members, reply_data, status_data, condition_data, too_old_data, at_data, failure_data}
+use Rattle.ds_text.specs.Replies.{row_data, body_members, reply_data, condition_data, too_old_data, at_data, failure_data}
 use Rattle.ds_text.specs.Ranges.{desc_data, info_data, looked_data, refusal_data}
 use Rattle.ds_text.specs.Lines.{item_data, is_staged, if_true, look_data, answer_data, send_members, step_data, place_of, illegal_data, outcome_data, answer_line, close_line, restart_line, fault_line}
 use Rattle.ds_text.specs.Prints.{Plain}

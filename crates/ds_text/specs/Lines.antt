@@ -1,7 +1,7 @@
 -- The JSON object of each line: a step, an answer, a close or a restart.
 use Rattle.std.specs.Prelude.{ℕ, List, [], ◌∷◌, codes, Bool, true, false, nat_lt, length, Option, Some, None, option_map, if◌then◌else◌}
 use Rattle.std.specs.List.{list_any}
-use Rattle.serde_json.specs.Data.{Data, Members, boolean, string, object, member, no_members}
+use Rattle.serde_json.specs.Data.{Data, Members, boolean, string, object, member}
 use Rattle.ds_base.specs.declared.value.Dir.{Dir}
 use Rattle.ds_kind.specs.declared.batch.Item.{Item}
 use Rattle.ds_kind.specs.declared.batch.Piece.{Piece}

@@ -1,5 +1,5 @@
 -- The JSON of replies and failures.
-use Rattle.std.specs.Prelude.{ℕ, List, [], ◌∷◌, length, codes, Option, Some, None, option_map}
+use Rattle.std.specs.Prelude.{ℕ, List, [], ◌∷◌, length, codes, Option, option_map}
 use Rattle.serde_json.specs.Data.{Data, Members, boolean, number, string, object, member, no_members}
 use Rattle.serde_json.specs.Find.{of_integer}
 use Rattle.ds_base.specs.declared.value.Value.{Value}

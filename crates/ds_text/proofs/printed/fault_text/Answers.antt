@@ -1,4 +1,4 @@
-use Rattle.std.proofs.Common.{[], ◌∷◌, Some, map, ap, ◌∙◌}
+use Rattle.std.proofs.Common.{[], ◌∷◌, map, ap, ◌∙◌}
 use Rattle.std.specs.Str.Lines.{lines}
 use Rattle.serde_json.specs.Read.{read}
 use Rattle.ds_text.specs.Lines.{fault_line}

@@ -1,5 +1,4 @@
-use Rattle.std.proofs.Common.{◌+◌, List, [], ◌∷◌, ◌++◌, string_bytes, sym, ap, ◌∙◌, subst}
-use Rattle.serde_json.specs.Data.{Data}
+use Rattle.std.proofs.Common.{◌+◌, [], ◌∷◌, ◌++◌, string_bytes, sym, ap, ◌∙◌, subst}
 use Rattle.serde_json.specs.Read.{max_depth}
 use Rattle.ds_text.specs.Lines.{step_data}
 use Rattle.ds_text.specs.Log.{steps_objects}
