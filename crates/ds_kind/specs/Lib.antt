@@ -1,3 +1,4 @@
 pub mod Flags
 pub mod Reach
 pub mod Request
+pub mod Table

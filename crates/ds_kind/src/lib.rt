@@ -13,6 +13,8 @@ pub mod reads;
 pub mod reply;
 pub mod request;
 pub mod table;
+#[cfg(test)]
+mod tests;
 pub mod writes;
 
 pub use batch::{Batch, Head, Item, Items, Part, Parts, Piece, Requests, Seqs};
@@ -22,4 +24,4 @@ pub use kind::{Bounds, Kind};
 pub use name::KindName;
 pub use reply::{Body, Failure, Flight, Flights, Replies, Reply, Row, Rows, TxnStatus};
 pub use request::Request;
-pub use table::{KindTable, compatible};
+pub use table::{KindTable, compatible, compatible_both_ways};
