@@ -2,7 +2,7 @@
 use Rattle.std.proofs.Common.{◌≡◌, ℕ, suc, ◌+◌, ◌<◌, ◌≤◌, List, [], ◌∷◌, Bool, true, false, cond, not, eqb, ltb, length, take, drop, Some, None, refl, ap, arith}
 use Rattle.std.proofs.lemmas.Bool.Decides.{nat_tests}
 use Rattle.std.specs.List.{position_or_len, position}
-use Rattle.ds_script.specs.Script.{lines_of, onto_first}
+use Rattle.ds_script.specs.Split.{lines_of, onto_first}
 
 abbrev pub ends : ℕ → Bool
 ends b = eqb b 10

@@ -1,2 +1,3 @@
 pub mod FirstLine
+pub mod Judged
 pub mod Walks

@@ -8,7 +8,8 @@ use Rattle.ds_script.specs.declared.line.Numbered.{Numbered}
 use Rattle.ds_script.specs.declared.state.OpenTxn.{OpenTxn}
 use Rattle.ds_script.specs.declared.state.State.{State}
 use Rattle.ds_script.specs.Rules.{judge, walk, numbers_rise}
-use Rattle.ds_script.specs.Script.{Fault, and_then, ended, at, next, numbered, is_blank, read_from}
+use Rattle.ds_script.specs.Script.{Fault, and_then, ended, at, next, numbered, read_from}
+use Rattle.ds_script.specs.Split.{is_blank}
 
 abbrev pub joined : List Numbered → Result (List Numbered) Fault → Result (List Numbered) Fault
 joined front rest = and_then rest (λ r. Ok (front ++ r))

@@ -1,4 +1,5 @@
 pub mod Events
+pub mod Examples
 pub mod Forms
 pub mod Happenings
 pub mod Limits
@@ -7,3 +8,4 @@ pub mod Requests
 pub mod Rules
 pub mod Script
 pub mod ScriptGives
+pub mod Split

@@ -1,6 +1,5 @@
--- A script: lines that are parted by the byte 0a, each read in its turn.
-use Rattle.std.specs.Prelude.{ℕ, ◌+◌, List, [], ◌∷◌, Bool, ◌||◌, ◌==◌, length, nat_lt, if◌then◌else◌, Option, Some, None, Result, Ok, Err}
-use Rattle.std.specs.List.{list_all}
+-- A script: its lines, each read in its turn.
+use Rattle.std.specs.Prelude.{ℕ, ◌+◌, List, [], ◌∷◌, length, nat_lt, if◌then◌else◌, Option, Some, None, Result, Ok, Err}
 use Rattle.ds_base.specs.declared.key.Key.{Key}
 use Rattle.ds_fields.specs.declared.fault.FaultKind.{FaultKind}
 use Rattle.ds_fields.specs.declared.fault.FaultKind.TheVariants.{TooLong, Order, TxnOpen}
@@ -11,29 +10,7 @@ use Rattle.ds_script.specs.declared.state.OpenTxn.{OpenTxn}
 use Rattle.ds_script.specs.declared.state.State.{State}
 use Rattle.ds_script.specs.Lines.{line_under}
 use Rattle.ds_script.specs.Rules.{start, top, turn}
-
--- ---- the bytes of the lines
-
--- a byte at the front of the first line
-abbrev pub onto_first : ℕ → List (List ℕ) → List (List ℕ)
-onto_first b [] = (b ∷ []) ∷ []
-onto_first b (l ∷ ls) = (b ∷ l) ∷ ls
-
--- the lines, without their ends; the last needs none
-abbrev pub lines_of : List ℕ → List (List ℕ)
-lines_of [] = []
-lines_of (b ∷ bs) = if b == 10 then [] ∷ lines_of bs else onto_first b (lines_of bs)
-
--- a space, a tab or a carriage return
-abbrev pub is_blank_byte : ℕ → Bool
-is_blank_byte b = b == 32 || b == 9 || b == 13
-
-abbrev pub is_blank : List ℕ → Bool
-is_blank line = list_all is_blank_byte line
-
--- blank lines alone
-abbrev pub says_nothing : List ℕ → Bool
-says_nothing bytes = list_all (λ b. is_blank_byte b || b == 10) bytes
+use Rattle.ds_script.specs.Split.{lines_of, is_blank, says_nothing}
 
 -- ---- faults
 

@@ -33,12 +33,7 @@ pub fn form_of(alloc: Global, anchor: &Key, json: &Json) -> Result<Option<Line>,
 }
 
 #[tactic(auto, unfolding(crate::specs::Forms::line_by))]
-fn line_by(
-    alloc: Global,
-    anchor: &Key,
-    op: &str,
-    json: &Json,
-) -> Result<Option<Line>, LineFault>
+fn line_by(alloc: Global, anchor: &Key, op: &str, json: &Json) -> Result<Option<Line>, LineFault>
     ensures { Reads result (line_by anchor.now op.now (view json.now)) }
 {
     match op {

@@ -105,11 +105,7 @@ pub fn happening_of(
 }
 
 #[tactic(auto, unfolding(crate::specs::Happenings::write_of))]
-fn write_of(
-    alloc: Global,
-    json: &Json,
-    common: &[&str],
-) -> Result<Option<Happening>, LineFault>
+fn write_of(alloc: Global, json: &Json, common: &[&str]) -> Result<Option<Happening>, LineFault>
     ensures { Reads result (write_of (map (λ n. n.now) common.now) (view json.now)) }
 {
     if !has_only(json, common, &["key", "stamp", "value"]) {
@@ -129,11 +125,7 @@ fn write_of(
 }
 
 #[tactic(auto, unfolding(crate::specs::Happenings::split_of))]
-fn split_of(
-    alloc: Global,
-    json: &Json,
-    common: &[&str],
-) -> Result<Option<Happening>, LineFault>
+fn split_of(alloc: Global, json: &Json, common: &[&str]) -> Result<Option<Happening>, LineFault>
     ensures { Reads result (split_of (map (λ n. n.now) common.now) (view json.now)) }
 {
     if !has_only(json, common, &["key"]) {
@@ -146,11 +138,7 @@ fn split_of(
 }
 
 #[tactic(auto, unfolding(crate::specs::Happenings::merge_of))]
-fn merge_of(
-    alloc: Global,
-    json: &Json,
-    common: &[&str],
-) -> Result<Option<Happening>, LineFault>
+fn merge_of(alloc: Global, json: &Json, common: &[&str]) -> Result<Option<Happening>, LineFault>
     ensures { Reads result (merge_of (map (λ n. n.now) common.now) (view json.now)) }
 {
     if !has_only(json, common, &["key"]) {
@@ -163,11 +151,7 @@ fn merge_of(
 }
 
 #[tactic(auto, unfolding(crate::specs::Happenings::lease_of))]
-fn lease_of(
-    alloc: Global,
-    json: &Json,
-    common: &[&str],
-) -> Result<Option<Happening>, LineFault>
+fn lease_of(alloc: Global, json: &Json, common: &[&str]) -> Result<Option<Happening>, LineFault>
     ensures { Reads result (lease_of (map (λ n. n.now) common.now) (view json.now)) }
 {
     if !has_only(json, common, &["key", "node"]) {
@@ -182,11 +166,7 @@ fn lease_of(
 }
 
 #[tactic(auto, unfolding(crate::specs::Happenings::move_of))]
-fn move_of(
-    alloc: Global,
-    json: &Json,
-    common: &[&str],
-) -> Result<Option<Happening>, LineFault>
+fn move_of(alloc: Global, json: &Json, common: &[&str]) -> Result<Option<Happening>, LineFault>
     ensures { Reads result (move_of (map (λ n. n.now) common.now) (view json.now)) }
 {
     if !has_only(json, common, &["key", "nodes"]) {
@@ -201,11 +181,7 @@ fn move_of(
 }
 
 #[tactic(auto, unfolding(crate::specs::Happenings::stale_of))]
-fn stale_of(
-    alloc: Global,
-    json: &Json,
-    common: &[&str],
-) -> Result<Option<Happening>, LineFault>
+fn stale_of(alloc: Global, json: &Json, common: &[&str]) -> Result<Option<Happening>, LineFault>
     ensures { Reads result (stale_of (map (λ n. n.now) common.now) (view json.now)) }
 {
     if !has_only(json, common, &["key", "back"]) {

@@ -12,10 +12,15 @@ pub mod form;
 pub mod happening;
 pub mod limits;
 pub mod line;
+#[cfg(test)]
+mod line_tests;
 pub mod read;
 pub mod request;
 pub mod rules;
 pub mod script;
+#[cfg(test)]
+mod script_tests;
+pub mod split;
 pub mod state;
 
 pub use accepted::{Script, Settings};

@@ -148,7 +148,10 @@ fn event_fits(nodes: u8, event: &Event) -> bool
         Event::Split { key } => point_fits(key),
         Event::Merge { key } => point_fits(key),
         Event::Lease { key, node } => lease_fits(nodes, key, *node),
-        Event::Move { key, nodes: replicas } => move_fits(nodes, key, replicas),
+        Event::Move {
+            key,
+            nodes: replicas,
+        } => move_fits(nodes, key, replicas),
         Event::Stale { key, back } => stale_fits(key, *back),
         Event::Abort => true,
         Event::Arrive { copy } => count_fits(*copy),
@@ -299,7 +302,10 @@ pub fn line_fits(nodes: u8, line: &Line) -> bool
         Line::Split { key } => point_fits(key),
         Line::Merge { key } => point_fits(key),
         Line::Lease { key, node } => lease_fits(nodes, key, *node),
-        Line::Move { key, nodes: replicas } => move_fits(nodes, key, replicas),
+        Line::Move {
+            key,
+            nodes: replicas,
+        } => move_fits(nodes, key, replicas),
         Line::Stale { key, back } => stale_fits(key, *back),
         Line::Abort => true,
         Line::Arrive { copy } => count_fits(*copy),

@@ -241,10 +241,7 @@ fn query_intent_of(alloc: Global, json: &Json) -> Result<Option<Request>, LineFa
     ensures { Reads result (query_intent_of (view json.now)) }
 {
     match key_and_number_of(alloc, json)? {
-        Some((key, seq)) => Ok(Some(Request::QueryIntent(QueryIntentArgs {
-            key,
-            seq: Seq(seq),
-        }))),
+        Some((key, seq)) => Ok(Some(Request::QueryIntent(QueryIntentArgs { key, seq: Seq(seq) }))),
         None => Ok(None),
     }
 }
@@ -300,9 +297,10 @@ fn admin_lease_of(alloc: Global, json: &Json) -> Result<Option<Request>, LineFau
     let key = key_of(alloc, first)?;
     let node = byte_of(second)?;
     match (key, node) {
-        (Some(key), Some(node)) => Ok(Some(Request::AdminTransferLease(
-            AdminTransferLeaseArgs { key, node },
-        ))),
+        (Some(key), Some(node)) => Ok(Some(Request::AdminTransferLease(AdminTransferLeaseArgs {
+            key,
+            node,
+        }))),
         _ => Ok(None),
     }
 }

@@ -119,11 +119,7 @@ fn number_of(lost: u32, timed: &Timed) -> Option<u32>
 {
     match &timed.event {
         Event::LoseRequest { copy } | Event::LoseReply { copy } => {
-            if timed.at == lost {
-                None
-            } else {
-                *copy
-            }
+            if timed.at == lost { None } else { *copy }
         }
         Event::Copy { copy } => Some(*copy),
         _ => None,
@@ -145,13 +141,7 @@ fn claim_all(copies: &mut CopySteps, line: u32, events: &[Timed]) -> Result<(), 
     let mut lost = 0;
     for timed in events {
         if let Some(copy) = number_of(lost, timed) {
-            copies.claim(
-                copy,
-                Step {
-                    line,
-                    at: timed.at,
-                },
-            )?;
+            copies.claim(copy, Step { line, at: timed.at })?;
         }
         lost = lost_after(lost, timed);
     }
@@ -235,12 +225,7 @@ fn may_begin(state: &State, line: &Line) -> bool
 /// The line of this number after the others: its fault, `Order`, `LowWrite` or `TxnOpen`, or what
 /// is known after it. After a fault the state is of no use.
 #[tactic(auto, unfolding(crate::specs::Rules::turn))]
-pub fn turn(
-    alloc: Global,
-    state: &mut State,
-    number: u32,
-    line: &Line,
-) -> Result<(), LineFault>
+pub fn turn(alloc: Global, state: &mut State, number: u32, line: &Line) -> Result<(), LineFault>
     ensures { Gives (λ _. state.new) result (turn number line.now state.old) }
 {
     if !leads(state, line) || !belongs(state, line) {

@@ -1,15 +1,16 @@
 //! Reading a whole script.
-ghost use Rattle.std.specs.Prelude.{◌≡◌, ◌<◌, ◌∷◌, Ok, length, IfOk};
+ghost use Rattle.std.specs.Prelude.{◌≡◌, Ok, IfOk};
 ghost use Rattle.ds_script.specs.Rules.{judge};
 ghost use Rattle.ds_fields.specs.Fault.{Gives};
-ghost use Rattle.ds_script.specs.Script.{lines_of, is_blank, says_nothing, at, anchor, next, ended, script_of};
+ghost use Rattle.ds_script.specs.Script.{at, anchor, next, ended, script_of};
 ghost use Rattle.ds_script.specs.ScriptGives.{Finds};
 
+use crate::accepted::Script;
 use crate::fault::ScriptFault;
 use crate::line::{Line, Lines, Numbered};
 use crate::read::line_under;
 use crate::rules::turn;
-use crate::accepted::Script;
+use crate::split::{first_line, is_blank, says_nothing};
 use crate::state::State;
 use ds_base::{Copies, Key};
 use ds_fields::{FaultKind, LineFault};
@@ -57,12 +58,7 @@ fn bad(line: u32, kind: FaultKind) -> ScriptFault
 }
 
 /// What the bytes say as the line of this number, and then what is known after it.
-fn next(
-    alloc: Global,
-    number: u32,
-    bytes: &[u8],
-    state: &mut State,
-) -> Result<Line, ScriptFault>
+fn next(alloc: Global, number: u32, bytes: &[u8], state: &mut State) -> Result<Line, ScriptFault>
     ensures read { Finds (λ line. (line, state.new)) result (at number (next number bytes.now state.old)) }
     ensures judged { IfOk result (λ line. judge number line state.old ≡ Ok state.new) }
 {
@@ -73,12 +69,7 @@ fn next(
     }
 }
 
-fn next_line(
-    alloc: Global,
-    number: u32,
-    bytes: &[u8],
-    state: &mut State,
-) -> Result<Line, LineFault>
+fn next_line(alloc: Global, number: u32, bytes: &[u8], state: &mut State) -> Result<Line, LineFault>
     ensures read { Gives (λ line. (line, state.new)) result (next number bytes.now state.old) }
     ensures judged { IfOk result (λ line. judge number line state.old ≡ Ok state.new) }
 {
@@ -107,31 +98,4 @@ fn ended(state: &State) -> Result<(), ScriptFault>
         (Some(_), None) => Ok(()),
         (Some(_), Some(open)) => Err(bad(open.line, FaultKind::TxnOpen)),
     }
-}
-
-/// The first line without its end, and what stands behind it.
-fn first_line(bytes: &[u8]) -> (&[u8], &[u8])
-    requires { 0 < length bytes.now }
-    ensures lines { lines_of bytes.now ≡ result.0.now ∷ lines_of result.1.now }
-    ensures shorter { length result.1.now < length bytes.now }
-{
-    match bytes.iter().position(|b| *b == b'\n') {
-        Some(end) => (&bytes[..end], &bytes[end + 1..]),
-        None => (bytes, &[]),
-    }
-}
-
-fn is_blank(line: &[u8]) -> bool
-    ensures { result ≡ is_blank line.now }
-{
-    line.iter()
-        .all(|b| *b == b' ' || *b == b'\t' || *b == b'\r')
-}
-
-fn says_nothing(bytes: &[u8]) -> bool
-    ensures { result ≡ says_nothing bytes.now }
-{
-    bytes
-        .iter()
-        .all(|b| *b == b' ' || *b == b'\t' || *b == b'\r' || *b == b'\n')
 }

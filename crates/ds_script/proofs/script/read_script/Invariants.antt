@@ -1,6 +1,7 @@
 use Rattle.std.proofs.Common.{◌≡◌, ◌<◌, ◌≤◌, true, length, Ok}
 use Rattle.ds_script.specs.Rules.{start, walk, numbers_rise}
-use Rattle.ds_script.specs.Script.{lines_of, read_from}
+use Rattle.ds_script.specs.Script.{read_from}
+use Rattle.ds_script.specs.Split.{lines_of}
 use Rattle.ds_script.proofs.Walks.{joined, last_number}
 use Rattle.ds_script.proofs.script.read_script.Given as goal
 
