@@ -1,12 +1,11 @@
 -- A request over a span is decided by what it does at each key.
-use Rattle.std.proofs.Common.{◌≡◌, ℕ, Bool, true, false, not, cond, ◌&&◌, List, [], ◌∷◌, ◌++◌, reverse, refl, sym, ap, ◌∙◌, subst, Option, Some, None, nat_eq, ◌==◌}
+use Rattle.std.proofs.Common.{◌≡◌, ℕ, Bool, true, false, not, cond, List, [], ◌∷◌, reverse, refl, sym, ap, ◌∙◌, subst, Option, Some, None, ◌==◌}
 use Rattle.std.specs.List.{filter}
 use Rattle.ds_base.specs.Order.{holds, after}
 use Rattle.ds_base.specs.Ordered.{key_eq, AllOver, Ascends, at_key, between}
 use Rattle.ds_base.proofs.OrderedFacts.{eq_same, at-none, same_list, ascends-between, at_key-between}
 use Rattle.ds_base.specs.declared.value.Value.{Value}
 use Rattle.ds_base.specs.declared.value.Stamp.{Stamp}
-use Rattle.ds_kind.specs.declared.reply.Row.{Row}
 use Rattle.ds_kind.specs.declared.reply.Body.TheVariants.{Rows, Gone as Keys}
 use Rattle.ds_kind.specs.declared.request.Request.{Request}
 use Rattle.ds_kind.specs.declared.request.Request.TheVariants.{Get, Scan, ReverseScan, Put, ConditionalPut, InitPut, Increment, Delete, DeleteRange, EndTxn, QueryIntent, ResolveIntent, ResolveIntentRange, AdminSplit, AdminTransferLease}
@@ -20,8 +19,8 @@ use Rattle.ds_cell.specs.declared.verdict.ActFault.{ActFault}
 use Rattle.ds_cell.specs.Content.{Content, no_content}
 use Rattle.ds_cell.specs.Seen.{own, held, seen, newest, under, value_seen, unless_written, newest_from, too_old}
 use Rattle.ds_cell.specs.Deed.{deed, decide, guarded, look_of}
-use Rattle.ds_cell.specs.Ask.{Cells, key_of, Asked, Failed, Gave, one_more, ask_each, ask, content_of, content_at, ask_at}
-use Rattle.ds_cell.specs.LawProofs.{guarded-keep, own_span}
+use Rattle.ds_cell.specs.Ask.{Cells, key_of, Asked, Failed, Gave, one_more, ask_each, ask, content_of, content_at}
+use Rattle.ds_cell.specs.LawProofs.{own_span}
 use Rattle.ds_cell.specs.Kinds.{judge_nothing, judge_read, judge_delete_range, gone_of, nothing, gone}
 use Rattle.ds_cell.specs.Replies.{Bits, with_row, rows_of, with_gone, gone_keys, body_of}
 use Rattle.ds_cell.specs.Requests.{deed_of, SameAnswer, KeysLaw}
@@ -133,7 +132,7 @@ same_told : (d : Content → Verdict) → quiet (d no_content) ≡ true → (xs 
 same_told d q xs ys ax ay same =
     told_loud d xs
     ∙ ap (λ vs. told (gather vs)) (same_list key_of (loud_of d xs) (loud_of d ys) (loud_ascends d xs ax) (loud_ascends d ys ay)
-        (λ k. at_key-loud d q k xs ax ∙ ap (loud_at k) (same k) ∙ sym (at_key-loud d q k ys ay)))
+    (λ k. at_key-loud d q k xs ax ∙ ap (loud_at k) (same k) ∙ sym (at_key-loud d q k ys ay)))
     ∙ sym (told_loud d ys)
 
 content_cond : (t : Bool) (o : Option (List ℕ × Content)) → content_of (cond t o None) ≡ cond t (content_of o) no_content

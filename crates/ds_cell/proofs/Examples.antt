@@ -1,20 +1,18 @@
 -- Worked examples of the definitions, some that hold and some that must not.
-use Rattle.std.proofs.Common.{◌≡◌, ℕ, ℤ, pos, Bool, true, false, List, [], ◌∷◌, refl, Option, Some, None}
-use Rattle.ds_base.specs.declared.value.Value.{Value}
+use Rattle.std.proofs.Common.{◌≡◌, ℕ, pos, false, [], ◌∷◌, refl, Some, None}
 use Rattle.ds_base.specs.declared.value.Value.TheVariants.{Text, Int}
-use Rattle.ds_kind.specs.declared.reply.Body.TheVariants.{Got, Rows, Number, Gone as Keys, Ended, Found}
-use Rattle.ds_kind.specs.declared.reply.TxnStatus.TheVariants.{Committed, Aborted}
-use Rattle.ds_kind.specs.declared.request.Request.TheVariants.{Get, Scan, ReverseScan, Put, Increment, DeleteRange, EndTxn, QueryIntent}
+use Rattle.ds_kind.specs.declared.reply.Body.TheVariants.{Rows, Gone as Keys, Found}
+use Rattle.ds_kind.specs.declared.request.Request.TheVariants.{Scan, ReverseScan, Put, Increment, DeleteRange, QueryIntent}
 use Rattle.ds_cell.specs.declared.entry.At.{At}
 use Rattle.ds_cell.specs.declared.entry.Version.{Version}
 use Rattle.ds_cell.specs.declared.entry.Written.{Written}
 use Rattle.ds_cell.specs.declared.verdict.Verdict.TheVariants.{Keep, Put as Write, Refuse}
-use Rattle.ds_cell.specs.declared.verdict.Bit.TheVariants.{Nothing, Value as Shown, Gone, Hit}
-use Rattle.ds_cell.specs.declared.verdict.ActFault.TheVariants.{Condition, TooOld, NotInteger, Overflow}
+use Rattle.ds_cell.specs.declared.verdict.Bit.TheVariants.{Nothing, Value as Shown, Gone}
+use Rattle.ds_cell.specs.declared.verdict.ActFault.TheVariants.{TooOld, NotInteger}
 use Rattle.ds_cell.specs.Content.{Content, no_content}
 use Rattle.ds_cell.specs.Seen.{seen, too_old}
-use Rattle.ds_cell.specs.Change.{made, wrote, after_foreign, settled}
-use Rattle.ds_cell.specs.Ask.{Cells, Asked, Failed, Gave}
+use Rattle.ds_cell.specs.Change.{made, after_foreign, settled}
+use Rattle.ds_cell.specs.Ask.{Cells, Failed, Gave}
 use Rattle.ds_cell.specs.Requests.{deed_of, ask_request}
 use Rattle.ds_cell.specs.Replies.{body_of}
 

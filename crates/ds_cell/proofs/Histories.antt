@@ -1,8 +1,8 @@
 -- Facts on lists in the order of their numbers, and on sums.
-use Rattle.std.proofs.Common.{◌≡◌, ℕ, ◌+◌, zero, suc, ◌<◌, ◌≤◌, Bool, true, false, not, cond, List, [], ◌∷◌, ◌++◌, reverse, length, refl, sym, ap, ◌∙◌, subst, Option, Some, None, arith, nat_lt, unwrap_or, ltb-false, ℤ, pos, negsuc, FitsSigned, w64}
+use Rattle.std.proofs.Common.{◌≡◌, ℕ, ◌+◌, suc, ◌≤◌, Bool, true, false, not, cond, List, ◌∷◌, length, refl, sym, ap, ◌∙◌, subst, Option, Some, None, arith, nat_lt, unwrap_or, ltb-false, ℤ, pos, negsuc, FitsSigned, w64}
 use Rattle.std.specs.Option.{SomeIff}
 use Rattle.std.proofs.lemmas.Bool.Decides.{nat_tests}
-use Rattle.std.specs.List.{insert, position_or_len, prefix_len}
+use Rattle.std.specs.List.{insert, position_or_len}
 use Rattle.std.proofs.lemmas.List.Sums.{prefix_len-le-length}
 use Rattle.ds_cell.specs.Kinds.{fits_i64}
 use Rattle.ds_cell.specs.Change.{place_before}

@@ -11,7 +11,7 @@ use Rattle.ds_cell.specs.declared.entry.Version.{Version}
 use Rattle.ds_cell.specs.declared.entry.Written.{Written}
 use Rattle.ds_cell.specs.Content.{Content}
 use Rattle.ds_cell.specs.Seen.{last_where, last_of, own, held, newest, under, version_at}
-use Rattle.ds_cell.specs.Change.{place_before, with_write, wrote, made, foreign_by, after_foreign}
+use Rattle.ds_cell.specs.Change.{place_before, wrote, made, foreign_by, after_foreign}
 use Rattle.ds_cell.specs.Laws.{IsLater}
 use Rattle.ds_cell.specs.LawProofs.{own-wrote}
 

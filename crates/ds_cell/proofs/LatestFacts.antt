@@ -1,5 +1,5 @@
 -- In a list whose numbers rise, the last that passes is the greatest.
-use Rattle.std.proofs.Common.{◌≡◌, ℕ, ◌≤◌, ◌<◌, Bool, true, false, cond, List, [], ◌∷◌, ◌++◌, length, reverse, refl, sym, ap, ◌∙◌, subst, Option, Some, None, ◌⊎◌, inl, inr, arith, nat_le, leb-true, ltb-true, ltb-false, append_assoc, ◌==◌, ◌&&◌, nat_lt}
+use Rattle.std.proofs.Common.{◌≡◌, ℕ, ◌≤◌, ◌<◌, Bool, true, false, cond, List, [], ◌∷◌, ◌++◌, reverse, refl, sym, ap, ◌∙◌, subst, Option, Some, None, ◌⊎◌, inl, inr, arith, nat_le, leb-true, ltb-true, ltb-false, append_assoc, ◌==◌, ◌&&◌, nat_lt}
 use Rattle.std.specs.List.{find, Contains, fold}
 use Rattle.std.specs.Option.{option_or}
 use Rattle.std.proofs.lemmas.List.{reverse-append, append-nil}
@@ -10,9 +10,8 @@ use Rattle.ds_base.proofs.KeyOrder.{and_first, and_second}
 use Rattle.ds_base.specs.declared.value.Stamp.{Stamp}
 use Rattle.ds_cell.specs.declared.entry.At.{At}
 use Rattle.ds_cell.specs.declared.entry.Version.{Version}
-use Rattle.ds_cell.specs.declared.entry.Written.{Written}
 use Rattle.ds_cell.specs.Content.{Content, AllAbove, Rises, IsContent, stamp_of, seq_of}
-use Rattle.ds_cell.specs.Seen.{last_where, last_of, held, own, newest, version_at, raised, stamp_from, newest_from, too_old, IsLatest, IsNewestFrom}
+use Rattle.ds_cell.specs.Seen.{last_where, last_of, held, own, newest, version_at, raised, stamp_from, newest_from, IsLatest, IsNewestFrom}
 
 none_in : {X : Type 0} {G : Type 0} (x : X) → Contains [] x → G
 none_in x h = let low : h.0 < 0 = h.1 in absurd (omega arith)
@@ -47,17 +46,23 @@ pub last_where-cons : {X : Type 0} (p : X → Bool) (x : X) (xs : List X) → la
 last_where-cons p x xs = ap (find p) (reverse-append (x ∷ []) xs) ∙ find-append p (reverse xs) (x ∷ [])
 
 latest_more : {X : Type 0} (f : X → ℕ) (n : ℕ) (x : X) (xs : List X) → AllAbove f (f x) xs → (o : Option X) → IsLatest f n xs o → (t : Bool) → nat_le (f x) n ≡ t → IsLatest f n (x ∷ xs) (option_or o (cond t (Some x) None))
-latest_more f n x xs above (Some w) is t e =
-    (in_rest x xs w is.0, is.1, λ y h low. elim (cons_cases x xs y h) [
-      | inl same ↦ let high : f x < f w = above_all f (f x) xs w above is.0 in subst (λ z. f z ≤ f w) same (omega arith)
-      | inr rest ↦ is.2 y rest low
-    ])
+latest_more f n x xs above (Some w) is t e = (
+  in_rest x xs w is.0,
+  is.1,
+  λ y h low. elim (cons_cases x xs y h) [
+    | inl same ↦ let high : f x < f w = above_all f (f x) xs w above is.0 in subst (λ z. f z ≤ f w) same (omega arith)
+    | inr rest ↦ is.2 y rest low
+  ],
+)
 latest_more f n x xs above None is true e =
-    let low : f x ≤ n = leb-true _ _ e in
-    (in_first x xs, low, λ y h under. elim (cons_cases x xs y h) [
-      | inl same ↦ subst (λ z. f z ≤ f x) same (omega arith)
-      | inr rest ↦ let high : n < f y = is y rest in omega arith
-    ])
+    let low : f x ≤ n = leb-true _ _ e in (
+      in_first x xs,
+      low,
+      λ y h under. elim (cons_cases x xs y h) [
+        | inl same ↦ subst (λ z. f z ≤ f x) same (omega arith)
+        | inr rest ↦ let high : n < f y = is y rest in omega arith
+      ],
+    )
 latest_more f n x xs above None is false e =
     let high : n < f x = leb-false _ _ e in
     λ y h. elim (cons_cases x xs y h) [
@@ -93,16 +98,20 @@ IsLast vs None = (v : Version) → Contains vs v → ⊥
 IsLast vs (Some w) = Contains vs w × ((v : Version) → Contains vs v → v.stamp.0 ≤ w.stamp.0)
 
 last_more : (v : Version) (vs : List Version) → AllAbove stamp_of v.stamp.0 vs → (o : Option Version) → IsLast vs o → IsLast (v ∷ vs) (option_or o (Some v))
-last_more v vs above (Some w) is =
-    (in_rest v vs w is.0, λ u h. elim (cons_cases v vs u h) [
-      | inl same ↦ let high : v.stamp.0 < w.stamp.0 = above_all stamp_of v.stamp.0 vs w above is.0 in subst (λ z. z.stamp.0 ≤ w.stamp.0) same (omega arith)
-      | inr rest ↦ is.1 u rest
-    ])
-last_more v vs above None is =
-    (in_first v vs, λ u h. elim (cons_cases v vs u h) [
-      | inl same ↦ subst (λ z. z.stamp.0 ≤ v.stamp.0) same (omega arith)
-      | inr rest ↦ absurd (is u rest)
-    ])
+last_more v vs above (Some w) is = (
+  in_rest v vs w is.0,
+  λ u h. elim (cons_cases v vs u h) [
+    | inl same ↦ let high : v.stamp.0 < w.stamp.0 = above_all stamp_of v.stamp.0 vs w above is.0 in subst (λ z. z.stamp.0 ≤ w.stamp.0) same (omega arith)
+    | inr rest ↦ is.1 u rest
+  ],
+)
+last_more v vs above None is = (
+  in_first v vs,
+  λ u h. elim (cons_cases v vs u h) [
+    | inl same ↦ subst (λ z. z.stamp.0 ≤ v.stamp.0) same (omega arith)
+    | inr rest ↦ absurd (is u rest)
+  ],
+)
 
 last_is : (vs : List Version) → Rises stamp_of vs → IsLast vs (last_of vs)
 last_is [] r = λ v h. none_in v h
@@ -126,11 +135,14 @@ not_above s t v from e =
 newest_more : (s : ℕ) (us : List Version) (o : Option Stamp) (v : Version) → IsNewestFrom s us o → IsNewestFrom s (us ++ v ∷ []) (raised s o v)
 newest_more s us None v is =
     elim (nat_le s v.stamp.0) as (λ t. nat_le s v.stamp.0 ≡ t → IsNewestFrom s (us ++ v ∷ []) (cond t (Some v.stamp) None)) [
-      | true ↦ λ e. let from : s ≤ v.stamp.0 = leb-true _ _ e in
-          ((v, Contains-push us v, refl), from, λ u h. elim (Contains-push_cases us v u h) [
-            | inl old ↦ let low : u.stamp.0 < s = is u old in omega arith
-            | inr same ↦ subst (λ z. z.stamp.0 ≤ v.stamp.0) same (omega arith)
-          ])
+      | true ↦ λ e. let from : s ≤ v.stamp.0 = leb-true _ _ e in (
+        (v, Contains-push us v, refl),
+        from,
+        λ u h. elim (Contains-push_cases us v u h) [
+          | inl old ↦ let low : u.stamp.0 < s = is u old in omega arith
+          | inr same ↦ subst (λ z. z.stamp.0 ≤ v.stamp.0) same (omega arith)
+        ],
+      )
       | false ↦ λ e. let below : v.stamp.0 < s = leb-false _ _ e in
           λ u h. elim (Contains-push_cases us v u h) [
             | inl old ↦ is u old
@@ -139,16 +151,22 @@ newest_more s us None v is =
     ] refl
 newest_more s us (Some t) v is =
     elim (nat_le s v.stamp.0 && nat_lt t.0 v.stamp.0) as (λ b. (nat_le s v.stamp.0 && nat_lt t.0 v.stamp.0) ≡ b → IsNewestFrom s (us ++ v ∷ []) (cond b (Some v.stamp) (Some t))) [
-      | true ↦ λ e. let from : s ≤ v.stamp.0 = leb-true _ _ (and_first _ _ e) in let above : t.0 < v.stamp.0 = ltb-true _ _ (and_second (nat_le s v.stamp.0) _ e) in
-          ((v, Contains-push us v, refl), from, λ u h. elim (Contains-push_cases us v u h) [
-            | inl old ↦ let low : u.stamp.0 ≤ t.0 = is.2 u old in omega arith
-            | inr same ↦ subst (λ z. z.stamp.0 ≤ v.stamp.0) same (omega arith)
-          ])
-      | false ↦ λ e. let top : v.stamp.0 ≤ t.0 = not_above s t.0 v.stamp.0 is.1 e in
-          ((is.0.0, Contains-append_left us (v ∷ []) is.0.0 is.0.1, is.0.2), is.1, λ u h. elim (Contains-push_cases us v u h) [
-            | inl old ↦ is.2 u old
-            | inr same ↦ subst (λ z. z.stamp.0 ≤ t.0) same top
-          ])
+      | true ↦ λ e. let from : s ≤ v.stamp.0 = leb-true _ _ (and_first _ _ e) in let above : t.0 < v.stamp.0 = ltb-true _ _ (and_second (nat_le s v.stamp.0) _ e) in (
+        (v, Contains-push us v, refl),
+        from,
+        λ u h. elim (Contains-push_cases us v u h) [
+          | inl old ↦ let low : u.stamp.0 ≤ t.0 = is.2 u old in omega arith
+          | inr same ↦ subst (λ z. z.stamp.0 ≤ v.stamp.0) same (omega arith)
+        ],
+      )
+      | false ↦ λ e. let top : v.stamp.0 ≤ t.0 = not_above s t.0 v.stamp.0 is.1 e in (
+        (is.0.0, Contains-append_left us (v ∷ []) is.0.0 is.0.1, is.0.2),
+        is.1,
+        λ u h. elim (Contains-push_cases us v u h) [
+          | inl old ↦ is.2 u old
+          | inr same ↦ subst (λ z. z.stamp.0 ≤ t.0) same top
+        ],
+      )
     ] refl
 
 newest_fold : (s : ℕ) (us ws : List Version) (o : Option Stamp) → IsNewestFrom s us o → IsNewestFrom s (us ++ ws) (fold (raised s) o ws)

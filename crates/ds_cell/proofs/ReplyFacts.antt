@@ -1,5 +1,5 @@
 -- Replies over two cuts of a span.
-use Rattle.std.proofs.Common.{◌≡◌, ℕ, Bool, true, false, List, [], ◌∷◌, ◌++◌, reverse, refl, sym, ap, ◌∙◌, Option, Some, None}
+use Rattle.std.proofs.Common.{◌≡◌, ℕ, List, [], ◌∷◌, ◌++◌, reverse, refl, ap, ◌∙◌, Some, None}
 use Rattle.std.proofs.lemmas.List.{reverse-append}
 use Rattle.ds_kind.specs.declared.reply.Row.{Row}
 use Rattle.ds_kind.specs.declared.reply.Body.TheVariants.{Rows, Gone as Keys}
@@ -7,7 +7,7 @@ use Rattle.ds_kind.specs.declared.request.Request.{Request}
 use Rattle.ds_kind.specs.declared.request.Request.TheVariants.{Get, Scan, ReverseScan, Put, ConditionalPut, InitPut, Increment, Delete, DeleteRange, EndTxn, QueryIntent, ResolveIntent, ResolveIntentRange, AdminSplit, AdminTransferLease}
 use Rattle.ds_cell.specs.declared.verdict.Bit.{Bit}
 use Rattle.ds_cell.specs.declared.verdict.Bit.TheVariants.{Nothing, Value as Shown, Gone, Hit}
-use Rattle.ds_cell.specs.Replies.{Bits, with_row, rows_of, with_gone, gone_keys, body_of, join_bodies}
+use Rattle.ds_cell.specs.Replies.{Bits, with_row, rows_of, with_gone, gone_keys}
 use Rattle.ds_cell.specs.Requests.{BodyLaw}
 
 with_row-append : (k : List ℕ) (b : Bit) (rs ss : List Row) → with_row k b (rs ++ ss) ≡ with_row k b rs ++ ss

@@ -1,15 +1,11 @@
 -- The laws of a request, by its kind.
-use Rattle.std.proofs.Common.{◌≡◌, true, false, refl, Some, None, Option}
-use Rattle.ds_base.specs.declared.value.Stamp.{Stamp}
+use Rattle.std.proofs.Common.{true, false}
 use Rattle.ds_kind.specs.Flags.{flags_of}
 use Rattle.ds_kind.specs.Request.{kind_of}
 use Rattle.ds_kind.specs.declared.request.Request.{Request}
 use Rattle.ds_kind.specs.declared.request.Request.TheVariants.{Get, Scan, ReverseScan, Put, ConditionalPut, InitPut, Increment, Delete, DeleteRange, EndTxn, QueryIntent, ResolveIntent, ResolveIntentRange, AdminSplit, AdminTransferLease}
 use Rattle.ds_cell.specs.declared.entry.At.{At}
-use Rattle.ds_cell.specs.declared.verdict.Verdict.TheVariants.{Keep}
-use Rattle.ds_cell.specs.declared.verdict.Bit.{Bit}
 use Rattle.ds_cell.specs.Seen.{too_old}
-use Rattle.ds_cell.specs.Deed.{guarded}
 use Rattle.ds_cell.specs.Laws.{RepeatLaw, FlagLaw}
 use Rattle.ds_cell.specs.LawProofs.{repeat_all, flags_all, guarded-keep}
 use Rattle.ds_cell.specs.Kinds.{judge_nothing, judge_read, judge_query, judge_put, judge_conditional, judge_init, judge_increment, judge_delete, judge_delete_range, nothing, shown, gone, nothing-coherent, nothing-flagged, read-coherent, read-flagged, query-coherent, query-flagged, flagged, put-coherent, conditional-coherent, init-coherent, increment-coherent, delete-coherent, delete_range-coherent}

@@ -1,5 +1,5 @@
 -- What a request does to one key.
-use Rattle.std.specs.Prelude.{◌≡◌, ℕ, ◌-◌, Bool, true, false, ◌&&◌, List, nat_le, Option, Some, None, ◌⊎◌, alloc_error, is_some}
+use Rattle.std.specs.Prelude.{◌≡◌, ℕ, ◌-◌, Bool, true, false, ◌&&◌, nat_le, Option, Some, None, ◌⊎◌, alloc_error, is_some}
 use Rattle.ds_base.specs.declared.value.Value.{Value}
 use Rattle.ds_base.specs.declared.value.Stamp.{Stamp}
 use Rattle.ds_cell.specs.declared.entry.Written.{Written}

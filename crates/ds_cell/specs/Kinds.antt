@@ -1,5 +1,5 @@
 -- How each kind judges what it sees.
-use Rattle.std.specs.Prelude.{◌≡◌, ℕ, ℤ, ◌+ℤ◌, Bool, true, false, Option, Some, None, if◌then◌else◌, nat_lt, ◌^◌, pos, negsuc, refl}
+use Rattle.std.specs.Prelude.{◌≡◌, ℤ, ◌+ℤ◌, Bool, true, false, Option, Some, None, if◌then◌else◌, nat_lt, ◌^◌, pos, negsuc, refl}
 use Rattle.ds_base.specs.Same.{same_value}
 use Rattle.ds_base.specs.declared.value.Value.{Value}
 use Rattle.ds_base.specs.declared.value.Value.TheVariants.{Text, Int}

@@ -3,7 +3,7 @@ use Rattle.std.proofs.Common.{◌≡◌, ℕ, ◌≤◌, zero, suc, Bool, true, 
 use Rattle.std.specs.List.{find, insert}
 use Rattle.std.specs.Option.{option_or}
 use Rattle.std.proofs.lemmas.List.Folds.{find-append}
-use Rattle.ds_base.specs.Order.{key_lt, key_le, holds, after}
+use Rattle.ds_base.specs.Order.{key_lt, holds, after}
 use Rattle.ds_base.specs.Ordered.{between}
 use Rattle.ds_base.proofs.KeyOrder.{key_le-not_lt, key_lt-irrefl, below-after}
 use Rattle.ds_base.proofs.OrderedFacts.{cut}
@@ -20,7 +20,7 @@ use Rattle.ds_cell.specs.Content.{Content}
 use Rattle.ds_cell.specs.Seen.{seen, newest, under, own, too_old, value_seen, version_at}
 use Rattle.ds_cell.specs.Change.{wrote}
 use Rattle.ds_cell.specs.Deed.{Sight, sight, deed, decide, guarded, look_of, prior, content_after}
-use Rattle.ds_cell.specs.Ask.{Cells, key_of, Asked, Failed, Gave, one_more, ask_each, ask, joined, StandsIn}
+use Rattle.ds_cell.specs.Ask.{Cells, key_of, Asked, Failed, Gave, one_more, ask_each, joined, StandsIn}
 use Rattle.ds_cell.specs.Laws.{JoinLaw, PointLaw, IsLater, Repeats, RepeatLaw, AllLater, RepeatSpanLaw, ReadsLaw, StaysLaw, NoWrites, FlagLaw, IsCoherent, WritesIf}
 
 -- join
@@ -198,8 +198,8 @@ repeat_put : (n : Bool) (judge : Sight → Verdict) (again : Option Value → Bi
 repeat_put true judge again at c c' w b counts same po later =
     ap (λ o. decide o again (too_old at c') (judge (sight at (look_of true at.seq.0) c')))
     (later.numbers at.seq.0 (omega arith)
-     ∙ ap (under at.seq.0) (own-wrote at at w c refl refl)
-     ∙ under-insert at.seq.0 _ _ (own at c) po (same_number at.seq.0 at.seq.0 refl))
+    ∙ ap (under at.seq.0) (own-wrote at at w c refl refl)
+    ∙ under-insert at.seq.0 _ _ (own at c) po (same_number at.seq.0 at.seq.0 refl))
     ∙ ap Keep same
 repeat_put false judge again at c c' w b counts same po later = cc
 

@@ -1,5 +1,5 @@
 -- What a reply says, made of the answers at the keys.
-use Rattle.std.specs.Prelude.{◌≡◌, ℕ, ℤ, Bool, true, false, List, [], ◌∷◌, ◌++◌, reverse, if◌then◌else◌, pos, Option, Some, None, refl}
+use Rattle.std.specs.Prelude.{ℕ, ℤ, Bool, true, false, List, [], ◌∷◌, ◌++◌, reverse, if◌then◌else◌, pos, Option, Some, None}
 use Rattle.ds_base.specs.declared.value.Value.{Value}
 use Rattle.ds_base.specs.declared.value.Value.TheVariants.{Text, Int}
 use Rattle.ds_kind.specs.declared.reply.Row.{Row}

@@ -58,8 +58,9 @@ pub trait Acts: Kind {
         let numbered = Self::FLAGS.is_numbered();
         if numbered {
             if let Some(write) = cell.written(at, at.seq) {
-                return Self::again(alloc, write.value.as_ref())
-                    .map_err(|_| ActFault::Memory(AllocError));
+                return Self::again(alloc, write.value.as_ref()).map_err(|_| ActFault::Memory(
+                    AllocError,
+                ));
             }
         }
         let look = if numbered {
@@ -67,8 +68,9 @@ pub trait Acts: Kind {
         } else {
             at.seq
         };
-        let verdict = Self::judge(alloc, args, cell, at, look)
-            .map_err(|_| ActFault::Memory(AllocError))?;
+        let verdict = Self::judge(alloc, args, cell, at, look).map_err(|_| ActFault::Memory(
+            AllocError,
+        ))?;
         match verdict {
             Verdict::Keep(bit) => Ok(bit),
             Verdict::Refuse(fault) => Err(fault),

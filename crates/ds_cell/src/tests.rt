@@ -87,7 +87,14 @@ fn an_init_put_wants_its_own_value(rt: HostRuntime) -> Result<(), Fail> {
     let alloc = rt.alloc();
     let mut cell = holding(alloc, Value::Int(1))?;
     let other = init_put(alloc, &mut cell, 9);
-    assert!(rt; matches!(other, Err(ActFault::Condition { actual: Some(Value::Int(1)) })));
+    assert!(rt;
+        matches!(
+            other,
+            Err(ActFault::Condition {
+                actual: Some(Value::Int(1))
+            })
+        )
+    );
     let same = init_put(alloc, &mut cell, 1);
     assert!(rt; matches!(same, Ok(Bit::Nothing)));
     assert!(rt; sees(&cell, at(1), 1));
@@ -194,6 +201,11 @@ fn requests_of_any_kind(rt: HostRuntime) -> Result<(), Fail> {
     let request = Request::Get(args);
     request_laws(&request);
     unnoticed(at(0));
-    assert!(rt; shows(act_request(alloc, &Key::least(alloc), &mut cell, at(0), &request), 4));
+    assert!(rt;
+        shows(
+            act_request(alloc, &Key::least(alloc), &mut cell, at(0), &request),
+            4
+        )
+    );
     Ok(())
 }
