@@ -1,8 +1,10 @@
 -- Facts on lists in the order of their numbers, and on sums.
-use Rattle.std.proofs.Common.{◌≡◌, ℕ, ◌+◌, zero, suc, ◌<◌, ◌≤◌, Bool, true, false, not, cond, List, [], ◌∷◌, ◌++◌, reverse, length, refl, sym, ap, ◌∙◌, subst, Option, Some, None, arith, nat_lt, unwrap_or, ltb-false, ℤ, pos, negsuc, FitsSigned, w64}
+use Rattle.std.proofs.Common.{◌≡◌, ℕ, ◌+◌, suc, ◌≤◌, Bool, true, false, not, cond, List, ◌∷◌, length, refl, sym, ap, ◌∙◌, subst, Option, Some, None, arith, nat_lt, unwrap_or, ltb-false, ℤ, pos, negsuc, FitsSigned, w64}
+use Rattle.std.specs.Option.{SomeIff}
 use Rattle.std.proofs.lemmas.Bool.Decides.{nat_tests}
-use Rattle.std.specs.List.{insert, position_or_len, prefix_len}
+use Rattle.std.specs.List.{insert, position_or_len}
 use Rattle.std.proofs.lemmas.List.Sums.{prefix_len-le-length}
+use Rattle.ds_cell.specs.Kinds.{fits_i64}
 use Rattle.ds_cell.specs.Change.{place_before}
 
 pub insert-one : {X : Type 0} (y : X) (ys : List X) (x : X) (n : ℕ) → insert (y ∷ ys) (1 + n) x ≡ y ∷ insert ys n x
@@ -21,3 +23,20 @@ place-prefix p xs =
 
 pub place_in_range : {X : Type 0} (p : X → Bool) (xs : List X) → place_before p xs ≤ length xs
 place_in_range p xs = rw (place-prefix p xs) (place_within p xs)
+
+fits_yes : (z : ℤ) → FitsSigned w64 z → fits_i64 z ≡ true
+fits_yes (pos n) h = grind (arith, nat_tests)
+fits_yes (negsuc n) h = grind (arith, nat_tests)
+
+fits_no : (z : ℤ) → fits_i64 z ≡ true → FitsSigned w64 z
+fits_no (pos n) h = grind (arith, nat_tests)
+fits_no (negsuc n) h = grind (arith, nat_tests)
+
+-- what `checked_add` gives
+pub checked_is : (r : Option ℤ) (z : ℤ) → SomeIff r (FitsSigned w64 z) z → r ≡ cond (fits_i64 z) (Some z) None
+checked_is (Some x) z h = ap Some h.1 ∙ sym (ap (λ t. cond t (Some z) None) (fits_yes z h.0))
+checked_is None z h =
+    elim (fits_i64 z) as (λ t. fits_i64 z ≡ t → None ≡ cond t (Some z) None) [
+      | true ↦ λ e. absurd (h (fits_no z e))
+      | false ↦ λ e. refl
+    ] refl

@@ -1,3 +1,10 @@
+pub mod Ask
 pub mod Change
 pub mod Content
+pub mod Deed
+pub mod Kinds
+pub mod LawProofs
+pub mod Laws
+pub mod Replies
+pub mod Requests
 pub mod Seen

@@ -1,5 +1,5 @@
 -- What a request sees of a key.
-use Rattle.std.specs.Prelude.{◌≡◌, ℕ, ◌<◌, ◌≤◌, Bool, true, false, List, [], ◌∷◌, Contains, nat_le, nat_lt, ◌&&◌, ◌==◌, if◌then◌else◌, Option, Some, None, find, reverse, fold}
+use Rattle.std.specs.Prelude.{◌≡◌, ℕ, ◌<◌, ◌≤◌, Bool, true, List, [], ◌∷◌, Contains, nat_le, nat_lt, ◌&&◌, ◌==◌, if◌then◌else◌, Option, Some, None, find, reverse, fold}
 use Rattle.ds_base.specs.declared.value.Value.{Value}
 use Rattle.ds_base.specs.declared.value.Stamp.{Stamp}
 use Rattle.ds_cell.specs.declared.entry.Version.{Version}
@@ -69,3 +69,9 @@ too_old at c = unless_written (own at c) (newest_from at.stamp.0 c)
 abbrev pub IsLatest : {X : Type 0} → (X → ℕ) → ℕ → List X → Option X → Type 0
 IsLatest f n xs None = (x : _) → Contains xs x → n < f x
 IsLatest f n xs (Some w) = Contains xs w × (f w ≤ n) × ((x : _) → Contains xs x → f x ≤ n → f x ≤ f w)
+
+-- t is the greatest stamp of these, and at or above s; or all are below s
+abbrev pub IsNewestFrom : ℕ → List Version → Option Stamp → Type 0
+IsNewestFrom s vs None = (v : Version) → Contains vs v → v.stamp.0 < s
+IsNewestFrom s vs (Some t) =
+    ((v : Version) × Contains vs v × (v.stamp ≡ t)) × (s ≤ t.0) × ((v : Version) → Contains vs v → v.stamp.0 ≤ t.0)

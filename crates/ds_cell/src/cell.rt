@@ -1,8 +1,8 @@
 //! The content of one key.
-ghost use Rattle.std.specs.Prelude.{◌≡◌, ◌≤◌, OnOk, IfOk, OnErr, Some, None, length, slice_get, MatchOption};
+ghost use Rattle.std.specs.Prelude.{◌≡◌, ◌≤◌, ◌++◌, OnOk, IfOk, OnErr, Some, None, length, slice_get, MatchOption};
 ghost use Rattle.std.specs.Option.{option_copied};
 ghost use Rattle.ds_cell.specs.Content.{no_content, IsContent, stamp_of, seq_of};
-ghost use Rattle.ds_cell.specs.Seen.{own, held, seen, newest, version_at, under, too_old, IsLatest};
+ghost use Rattle.ds_cell.specs.Seen.{own, held, seen, newest, version_at, under, too_old, newest_from, IsLatest, IsNewestFrom};
 ghost use Rattle.ds_cell.specs.Change.{wrote, after_foreign, settled};
 
 use crate::entry::{At, Version, Written};
@@ -48,11 +48,16 @@ impl Cell {
         }
     }
 
-    /// Does nothing: its clause tells what every cell keeps.
-    pub fn known(&self)
-        ensures { IsContent self.now }
+    /// Does nothing: its clauses tell what every cell keeps. Stamps and numbers rise, so that the
+    /// write, the version and the stamp in its way that a request at `at` meets are the greatest.
+    pub fn known(&self, at: At)
+        ensures content { IsContent self.now }
+        ensures write { IsLatest seq_of at.seq.0 (own at self.now) (newest at.seq.0 (own at self.now)) }
+        ensures version { IsLatest stamp_of at.stamp.0 self.now.versions (version_at at.stamp.0 self.now.versions) }
+        ensures in_the_way { IsNewestFrom at.stamp.0 (self.now.versions ++ self.now.waiting) (newest_from at.stamp.0 self.now) }
     {
         let _ = &self.versions;
+        let _ = at;
     }
 
     /// The committed version at a place, counted from 0 by ascending stamp: its stamp, and its value
@@ -93,7 +98,14 @@ impl Cell {
     pub fn seen(&self, at: At) -> Option<&Value>
         ensures { option_copied result ≡ seen at at.seq.0 self.now }
     {
-        if let Some(write) = lists::newest(self.own(at), at.seq) {
+        self.seen_up_to(at, at.seq)
+    }
+
+    // The same with own writes up to the number `look`.
+    pub(crate) fn seen_up_to(&self, at: At, look: Seq) -> Option<&Value>
+        ensures { option_copied result ≡ seen at look.0 self.now }
+    {
+        if let Some(write) = lists::newest(self.own(at), look) {
             return write.value.as_ref();
         }
         match lists::version_at(self.versions.as_slice(), at.stamp) {
@@ -102,11 +114,11 @@ impl Cell {
         }
     }
 
-    // The write of the request's transaction under the request's number.
-    pub(crate) fn written(&self, at: At) -> Option<&Written>
-        ensures { option_copied result ≡ under at.seq.0 (own at self.now) }
+    // The write of the request's transaction under a number.
+    pub(crate) fn written(&self, at: At, seq: Seq) -> Option<&Written>
+        ensures { option_copied result ≡ under seq.0 (own at self.now) }
     {
-        lists::under(self.own(at), at.seq)
+        lists::under(self.own(at), seq)
     }
 
     // The stamp that stands in the way of a write.
@@ -118,6 +130,26 @@ impl Cell {
         } else {
             None
         }
+    }
+
+    // Writes under the request's number.
+    pub(crate) fn write(&mut self, at: At, value: Option<Value>) -> Result<(), AllocError>
+        requires { under at.seq.0 (own at self.old) ≡ None }
+        ensures ok { OnOk result (self.new ≡ wrote at value self.old) }
+        ensures err { OnErr result (self.new ≡ self.old) }
+    {
+        let written = Written { seq: at.seq, value };
+        if self.epoch == at.epoch && self.owner.0 == at.txn.0 {
+            let place = lists::place_of_write(self.history.as_slice(), at.seq);
+            self.history.insert(place, written)?;
+            return Ok(());
+        }
+        self.history.reserve(1)?;
+        self.history.clear();
+        self.history.push(written)?;
+        self.owner = at.txn;
+        self.epoch = at.epoch;
+        Ok(())
     }
 
     /// A write of another client: a version at its stamp, unless one stands there. Where an intent

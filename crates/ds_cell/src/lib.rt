@@ -1,9 +1,20 @@
-//! One key's content, and what each kind does to it.
+//! One key's content, and what each kind of request does to it.
 #![tactic(auto)]
 
+pub mod acts;
 pub mod cell;
+mod control;
 pub mod entry;
-pub mod lists;
+mod lists;
+mod reads;
+pub mod request;
+#[cfg(test)]
+mod tests;
+pub mod verdict;
+mod writes;
 
+pub use acts::Acts;
 pub use cell::Cell;
 pub use entry::{At, Version, Written};
+pub use request::act_request;
+pub use verdict::{ActFault, Bit, Verdict};

@@ -75,11 +75,7 @@ fn stamp_from(from: Stamp, version: Option<&Version>) -> Option<Stamp>
 }
 
 // The greatest stamp at or above `from` of a version or a waiting write.
-pub(crate) fn newest_from(
-    from: Stamp,
-    versions: &[Version],
-    waiting: &[Version],
-) -> Option<Stamp>
+pub(crate) fn newest_from(from: Stamp, versions: &[Version], waiting: &[Version]) -> Option<Stamp>
     ensures { result ≡ fold (raised from.0) (stamp_from from.0 (last_of versions.now)) waiting.now }
 {
     let start = stamp_from(from, last_version(versions));
@@ -173,19 +169,13 @@ pub(crate) fn settled(
     Ok(versions)
 }
 
-pub(crate) fn copy_versions(
-    alloc: Global,
-    versions: &[Version],
-) -> Result<Vec<Version>, AllocError>
+pub(crate) fn copy_versions(alloc: Global, versions: &[Version]) -> Result<Vec<Version>, AllocError>
     ensures { IfOk result (λ vs. vs.items ≡ versions.now) }
 {
     versions.to_vec(alloc)
 }
 
-pub(crate) fn copy_history(
-    alloc: Global,
-    history: &[Written],
-) -> Result<Vec<Written>, AllocError>
+pub(crate) fn copy_history(alloc: Global, history: &[Written]) -> Result<Vec<Written>, AllocError>
     ensures { IfOk result (λ h. h.items ≡ history.now) }
 {
     history.to_vec(alloc)

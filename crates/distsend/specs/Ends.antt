@@ -1,0 +1,93 @@
+-- How a run ends, for each status.
+use Rattle.std.specs.Prelude.{◌≡◌, ◌≢◌, ◌≤◌, ◌<◌, ◌⊎◌, ℕ, Bool, true, false, List, [], ◌∷◌, codes, length, take, Option, Ok, Err}
+use Rattle.std.specs.Io.KnownBytes.{Consumes, Appends, IsAtEnd}
+use Rattle.ds_io.specs.Counts.{Rose}
+use Rattle.ds_rule.specs.declared.journal.Entry.{Entry}
+use Rattle.ds_script.specs.declared.line.Numbered.{Numbered}
+use Rattle.ds_script.specs.Script.{Fault, script_of}
+use Rattle.ds_text.specs.Log.{text_of}
+use Rattle.ds_replay.specs.Built.{is_built}
+use Rattle.distsend.specs.Texts.{fault_text, unbuilt, usage_text}
+use Rattle.distsend.specs.declared.status.Status.{Status}
+use Rattle.distsend.specs.declared.status.Status.TheVariants.{Done, BadScript, Usage, ReadFault, WriteFault, Memory}
+
+-- a source before and after a call: what it has left, where that is told, and its count of faults
+pub record Took : Type 0 where
+  pub left : Option (List ℕ)
+  pub left_after : Option (List ℕ)
+  pub faults : ℕ
+  pub faults_after : ℕ
+
+-- a sink before and after a call: what it holds, where that is told, and its count of faults
+pub record Put : Type 0 where
+  pub held : Option (List ℕ)
+  pub held_after : Option (List ℕ)
+  pub faults : ℕ
+  pub faults_after : ℕ
+
+-- the words are the command
+abbrev pub command : List (List ℕ)
+command = codes "replay" ∷ []
+
+-- the bytes were all that the source had
+abbrev pub IsWhole : Took → List ℕ → Type 0
+IsWhole s bytes = Consumes s.left s.left_after bytes × IsAtEnd s.left_after × (s.faults_after ≡ s.faults)
+
+-- the source gave a script of a form that is built, and the text is that of a log
+pub record IsDone (words : List (List ℕ)) (s : Took) (text : List ℕ) : Type 0 where
+  pub words_are : words ≡ command
+  pub bytes : List ℕ
+  pub whole : IsWhole s bytes
+  pub script : List Numbered
+  pub accepted : script_of bytes ≡ Ok script
+  pub built : is_built script ≡ true
+  pub log : List Entry
+  pub text_is : text ≡ text_of log
+
+-- the bytes were all that the source had, or already too many
+abbrev pub IsEnough : Took → List ℕ → Type 0
+IsEnough s bytes = Consumes s.left s.left_after bytes × (IsAtEnd s.left_after ⊎ (4194304 < length bytes)) × (s.faults_after ≡ s.faults)
+
+-- why the bytes are refused: the fault that they have; or they are a script with a form that isn't built
+pub data Refused (bytes : List ℕ) : Fault → Type 0 where
+  Faulty : (f : Fault) → script_of bytes ≡ Err f → Refused bytes f
+  Unbuilt : (script : List Numbered) → script_of bytes ≡ Ok script → is_built script ≡ false → Refused bytes unbuilt
+
+-- the text names the fault of what the source gave
+pub record IsBad (words : List (List ℕ)) (s : Took) (text : List ℕ) : Type 0 where
+  pub words_are : words ≡ command
+  pub bytes : List ℕ
+  pub enough : IsEnough s bytes
+  pub fault : Fault
+  pub refused : Refused bytes fault
+  pub text_is : text ≡ fault_text fault
+
+-- what a status says before anything is put
+abbrev pub Answered : Status → List (List ℕ) → Took → List ℕ → Type 0
+Answered Done words s text = IsDone words s text
+Answered BadScript words s text = IsBad words s text
+Answered Usage words s text = (words ≢ command) × (text ≡ usage_text)
+Answered ReadFault words s text = Rose s.faults s.faults_after × (text ≡ [])
+Answered WriteFault words s text = ⊥
+Answered Memory words s text = text ≡ []
+
+-- all of the text was put, and no call of the sink failed
+abbrev pub PutWhole : Put → List ℕ → Type 0
+PutWhole k text = Appends k.held k.held_after text × (k.faults_after ≡ k.faults)
+
+-- some front of the text was put, and a call of the sink failed
+abbrev pub PutFront : Put → List ℕ → Type 0
+PutFront k text = ((n : ℕ) × (n ≤ length text) × Appends k.held k.held_after (take n text)) × Rose k.faults k.faults_after
+
+abbrev pub Ends : Status → List (List ℕ) → Took → Put → Type 0
+Ends WriteFault words s k = (status : Status) × (text : List ℕ) × Answered status words s text × PutFront k text
+Ends status words s k = (text : List ℕ) × Answered status words s text × PutWhole k text
+
+-- what is put for a script that was read: the text of a log, the fault of a form that isn't built, or nothing
+abbrev pub Replayed : List Numbered → Status → List ℕ → Type 0
+Replayed script Done text = (is_built script ≡ true) × (log : List Entry) × (text ≡ text_of log)
+Replayed script BadScript text = (is_built script ≡ false) × (text ≡ fault_text unbuilt)
+Replayed script Memory text = text ≡ []
+Replayed script Usage text = ⊥
+Replayed script ReadFault text = ⊥
+Replayed script WriteFault text = ⊥

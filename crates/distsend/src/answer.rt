@@ -1,0 +1,115 @@
+//! The top call: from words and bytes to a status and bytes.
+ghost use Rattle.std.specs.Prelude.{◌≡◌, [], map, string_bytes, true, false, IsTrue, ◌↔◌, IfOk, MatchResult, MatchOption, List};
+ghost use Rattle.ds_rule.specs.declared.journal.Entry.{Entry};
+ghost use Rattle.ds_text.specs.Log.{text_of};
+ghost use Rattle.ds_replay.specs.Built.{is_built};
+ghost use Rattle.distsend.specs.Ends.{Answered, Ends, Replayed, command};
+
+use crate::status::Status;
+use crate::texts::{fault_text, usage_text};
+use ds_base::Text;
+use ds_io::{ReadError, Sink, Source, put_all, read_all};
+use ds_replay::replay;
+use ds_script::{FaultKind, Script, ScriptFault, Settings, read_script};
+use ds_text::text;
+use std::alloc::{AllocError, Global};
+
+/// Replays the script that the source gives, as the words say, and puts what it prints on the sink.
+/// All of it is made before anything is put.
+pub fn run<S: Source, K: Sink>(
+    alloc: Global,
+    words: &[String],
+    script: &mut S,
+    out: &mut K,
+) -> Status
+    ensures { Ends result (map string_bytes words.now)
+        (record { left = S.left script.old; left_after = S.left script.new; faults = S.faults script.old; faults_after = S.faults script.new })
+        (record { held = K.held out.old; held_after = K.held out.new; faults = K.faults out.old; faults_after = K.faults out.new }) }
+{
+    let (status, text) = answer(alloc, words, script);
+    match put_all(out, text.as_str().as_bytes()) {
+        Ok(()) => status,
+        Err(_) => Status::WriteFault,
+    }
+}
+
+/// The status, and what is put for it.
+fn answer<S: Source>(alloc: Global, words: &[String], script: &mut S) -> (Status, Text)
+    ensures { Answered result.0 (map string_bytes words.now)
+        (record { left = S.left script.old; left_after = S.left script.new; faults = S.faults script.old; faults_after = S.faults script.new })
+        result.1 }
+{
+    if !is_command(words) {
+        return or_memory(alloc, Status::Usage, usage_text(alloc));
+    }
+    let bytes = match read_all(alloc, script) {
+        Ok(bytes) => bytes,
+        Err(ReadError::Fault) => return (Status::ReadFault, nothing(alloc)),
+        Err(ReadError::TooLong) => {
+            let line = fault_text(alloc, 0, FaultKind::TooLong);
+            return or_memory(alloc, Status::BadScript, line);
+        }
+        Err(ReadError::Memory(_)) => return (Status::Memory, nothing(alloc)),
+    };
+    match read_script(alloc, &bytes) {
+        Ok(script) => replayed(alloc, &script),
+        Err(ScriptFault::Bad { line, kind }) => {
+            or_memory(alloc, Status::BadScript, fault_text(alloc, line, kind))
+        }
+        Err(ScriptFault::Memory(_)) => (Status::Memory, nothing(alloc)),
+    }
+}
+
+fn nothing(alloc: Global) -> Text
+    ensures { result ≡ [] }
+{
+    Text::from_string(String::new(alloc))
+}
+
+fn is_command(words: &[String]) -> bool
+    ensures { IsTrue result ↔ (map string_bytes words.now ≡ command) }
+{
+    match words {
+        [word] => word.as_str() == "replay",
+        _ => false,
+    }
+}
+
+/// The text of the script's log, or `None` where the script holds a form that isn't built.
+fn log_text(alloc: Global, script: &Script) -> Result<Option<Text>, AllocError>
+    ensures { IfOk result (λ o. MatchOption o (is_built script.now.lines ≡ false) (λ t. (is_built script.now.lines ≡ true) × (log : List Entry) × (t ≡ text_of log))) }
+{
+    let settings = Settings {
+        cache: 1024,
+        budget: 100_000,
+    };
+    match replay(alloc, script, settings)? {
+        Some(log) => Ok(Some(text(alloc, &log)?)),
+        None => Ok(None),
+    }
+}
+
+/// What is put for a script that was read.
+fn replayed(alloc: Global, script: &Script) -> (Status, Text)
+    ensures { Replayed script.now.lines result.0 result.1 }
+{
+    match log_text(alloc, script) {
+        Ok(Some(text)) => (Status::Done, text),
+        Ok(None) => or_memory(
+            alloc,
+            Status::BadScript,
+            fault_text(alloc, 0, FaultKind::Shape),
+        ),
+        Err(_) => (Status::Memory, nothing(alloc)),
+    }
+}
+
+/// The status with its text, where there was memory for it.
+fn or_memory(alloc: Global, status: Status, text: Result<Text, AllocError>) -> (Status, Text)
+    ensures { MatchResult text (λ t. (result.0 ≡ status) × (result.1 ≡ t)) (λ _. (result.0 ≡ Status.Memory) × (result.1 ≡ [])) }
+{
+    match text {
+        Ok(text) => (status, text),
+        Err(_) => (Status::Memory, nothing(alloc)),
+    }
+}

@@ -1,0 +1,1 @@
+//! Runs over sources and sinks in memory.

@@ -1,0 +1,94 @@
+//! A request of any kind, and the laws as theorems.
+ghost use Rattle.std.specs.Prelude.{◌≡◌, ◌<◌, Option, IfOk, IfErr};
+ghost use Rattle.ds_base.specs.declared.value.Value.{Value};
+ghost use Rattle.ds_kind.specs.Flags.{is_numbered, flags_of};
+ghost use Rattle.ds_kind.specs.Request.{kind_of};
+ghost use Rattle.ds_cell.specs.declared.entry.Version.{Version};
+ghost use Rattle.ds_cell.specs.Content.{Content};
+ghost use Rattle.ds_cell.specs.Change.{wrote, after_foreign};
+ghost use Rattle.ds_cell.specs.declared.entry.At.{At};
+ghost use Rattle.ds_cell.specs.Deed.{deed, content_after, IsBitOf, IsFaultOf};
+ghost use Rattle.ds_cell.specs.Requests.{deed_of, BodyLaw, StillLaw, KeysLaw};
+ghost use Rattle.ds_cell.specs.Laws.{JoinLaw, PointLaw, RepeatLaw, RepeatSpanLaw, ReadsLaw, StaysLaw, FlagLaw, IsLater};
+
+use crate::acts::Acts;
+use crate::cell::Cell;
+use crate::entry::At;
+use crate::verdict::{ActFault, Bit};
+use ds_base::Key;
+use ds_kind::{Request, on_kind};
+use std::alloc::Global;
+
+fn act_by<K: Acts>(
+    alloc: Global,
+    key: &Key,
+    cell: &mut Cell,
+    at: At,
+    args: &K::Args,
+) -> Result<Bit, ActFault>
+    ensures ok { IfOk result (λ b. IsBitOf (deed (is_numbered K.FLAGS) (K.judge args.now) K.again at cell.old) b × (cell.new ≡ content_after at (deed (is_numbered K.FLAGS) (K.judge args.now) K.again at cell.old) cell.old)) }
+    ensures err { IfErr result (λ f. IsFaultOf (deed (is_numbered K.FLAGS) (K.judge args.now) K.again at cell.old) f × (cell.new ≡ cell.old)) }
+{
+    K::act(alloc, key, cell, at, args)
+}
+
+/// What a request does to one key of its span. Any fault leaves the cell as it was.
+pub fn act_request(
+    alloc: Global,
+    key: &Key,
+    cell: &mut Cell,
+    at: At,
+    request: &Request,
+) -> Result<Bit, ActFault>
+    ensures ok { IfOk result (λ b. IsBitOf (deed_of request.now at cell.old) b × (cell.new ≡ content_after at (deed_of request.now at cell.old) cell.old)) }
+    ensures err { IfErr result (λ f. IsFaultOf (deed_of request.now at cell.old) f × (cell.new ≡ cell.old)) }
+{
+    on_kind!(request, act_by(alloc, key, cell, at))
+}
+
+/// Does nothing: its clauses are the laws of every kind. Asked on a span, a request is the join of
+/// itself on the two cuts, and on the span of one key it is what it does to that key. Asked again
+/// with its number, it changes nothing and answers the same, whatever stands beside by then. It reads
+/// only its span, and answers and writes only there. It writes only if its kind is flagged so.
+pub fn laws<K: Acts>(args: &K::Args)
+    ensures join { (at : At) → JoinLaw (deed (is_numbered K.FLAGS) (K.judge args.now) K.again at) }
+    ensures point { (at : At) → PointLaw (deed (is_numbered K.FLAGS) (K.judge args.now) K.again at) }
+    ensures repeat { RepeatLaw (deed (is_numbered K.FLAGS) (K.judge args.now) K.again) }
+    ensures repeat_span { RepeatSpanLaw (deed (is_numbered K.FLAGS) (K.judge args.now) K.again) }
+    ensures reads { (at : At) → ReadsLaw (deed (is_numbered K.FLAGS) (K.judge args.now) K.again at) }
+    ensures stays { (at : At) → StaysLaw (deed (is_numbered K.FLAGS) (K.judge args.now) K.again at) }
+    ensures flags { (at : At) → FlagLaw K.FLAGS.write (deed (is_numbered K.FLAGS) (K.judge args.now) K.again at) }
+{
+    let _ = args;
+}
+
+/// Does nothing: its clauses are the laws of the request, as [`laws`] of its kind, and three more. Over
+/// a span the bodies of two cuts join to the body of the whole. An end, a resolve or an admin request
+/// leaves every key as it is. What a request answers and writes is decided by what it does at each key
+/// that it speaks of, whichever keys are listed beside them.
+pub fn request_laws(request: &Request)
+    ensures join { (at : At) → JoinLaw (deed_of request.now at) }
+    ensures point { (at : At) → PointLaw (deed_of request.now at) }
+    ensures repeat { RepeatLaw (deed_of request.now) }
+    ensures repeat_span { RepeatSpanLaw (deed_of request.now) }
+    ensures reads { (at : At) → ReadsLaw (deed_of request.now at) }
+    ensures stays { (at : At) → StaysLaw (deed_of request.now at) }
+    ensures flags { (at : At) → FlagLaw (flags_of (kind_of request.now)).write (deed_of request.now at) }
+    ensures bodies { BodyLaw request.now }
+    ensures still { StillLaw request.now }
+    ensures keys { KeysLaw request.now }
+{
+    let _ = request;
+}
+
+/// Does nothing: its clauses tell what a request at `at` does not notice. That is a write of its
+/// transaction and epoch under a later number, a foreign write above its stamp, and one such thing
+/// after another. So by the law of repeats it is answered the same beside them.
+pub fn unnoticed(at: At)
+    ensures write { (next : At) (w : Option Value) (c : Content) → next.txn.0 ≡ at.txn.0 → next.epoch ≡ at.epoch → at.seq.0 < next.seq.0 → IsLater at c (wrote next w c) }
+    ensures foreign { (v : Version) (c : Content) → at.stamp.0 < v.stamp.0 → IsLater at c (after_foreign v c) }
+    ensures nothing { (c : Content) → IsLater at c c }
+    ensures both { (c d e : Content) → IsLater at c d → IsLater at d e → IsLater at c e }
+{
+    let _ = at;
+}
