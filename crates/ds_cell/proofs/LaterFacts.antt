@@ -12,7 +12,9 @@ use Rattle.ds_cell.specs.declared.entry.Written.{Written}
 use Rattle.ds_cell.specs.Content.{Content}
 use Rattle.ds_cell.specs.Seen.{last_where, last_of, own, held, newest, under, version_at}
 use Rattle.ds_cell.specs.Change.{place_before, wrote, made, foreign_by, after_foreign}
-use Rattle.ds_cell.specs.Laws.{IsLater}
+use Rattle.ds_cell.specs.declared.verdict.Verdict.{Verdict}
+use Rattle.ds_cell.specs.Deed.{content_after}
+use Rattle.ds_cell.specs.Laws.{IsLater, RepeatLaw, BesideLaw}
 use Rattle.ds_cell.specs.LawProofs.{own-wrote}
 
 find-skip : {X : Type 0} (p : X → Bool) (xs : List X) (x : X) (ys : List X) → p x ≡ false → find p (xs ++ x ∷ ys) ≡ find p (xs ++ ys)
@@ -87,3 +89,7 @@ later_foreign_by at (Some w) v c above = record { version = refl; writes = λ n 
 -- a foreign write above the stamp
 pub later_foreign : (at : At) (v : Version) (c : Content) → at.stamp.0 < v.stamp.0 → IsLater at c (after_foreign v c)
 later_foreign at v c above = later_foreign_by at (last_of c.history) v c above
+
+pub beside_all : (d : At → Content → Verdict) → RepeatLaw d → BesideLaw d
+beside_all d repeat at next w c txn epoch above =
+    repeat at c (wrote next w (content_after at (d at c) c)) (later_write at next w (content_after at (d at c) c) txn epoch above)

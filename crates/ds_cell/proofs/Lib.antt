@@ -6,3 +6,4 @@ pub mod LatestFacts
 pub mod ReplyFacts
 pub mod RequestLaws
 pub mod RisingFacts
+pub mod WriteFacts

@@ -11,12 +11,11 @@ use Rattle.ds_base.specs.declared.value.Stamp.{Stamp}
 use Rattle.ds_cell.proofs.Histories.{place-prefix, insert-one}
 
 -- x before the first that passes
-insert_before : {X : Type 0} → (X → Bool) → X → List X → List X
+abbrev pub insert_before : {X : Type 0} → (X → Bool) → X → List X → List X
 insert_before p x [] = x ∷ []
 insert_before p x (y ∷ ys) = cond (p y) (x ∷ y ∷ ys) (y ∷ insert_before p x ys)
 
 insert-at_prefix : {X : Type 0} (p : X → Bool) (x : X) (xs : List X) → insert xs (position_or_len p xs) x ≡ insert_before p x xs
-unfolding insert_before
 insert-at_prefix p x [] = refl
 insert-at_prefix p x (y ∷ ys) =
     elim (p y) as (λ t. insert (y ∷ ys) (cond (not t) (1 + prefix_len (λ z. not (p z)) ys) 0) x ≡ cond t (x ∷ y ∷ ys) (y ∷ insert_before p x ys)) [
@@ -24,12 +23,14 @@ insert-at_prefix p x (y ∷ ys) =
       | false ↦ insert-one y ys x _ ∙ ap (λ zs. y ∷ zs) (insert-at_prefix p x ys)
     ]
 
+pub insert-place : {X : Type 0} (p : X → Bool) (x : X) (xs : List X) → insert xs (place_before p xs) x ≡ insert_before p x xs
+insert-place p x xs = ap (λ i. insert xs i x) (place-prefix p xs) ∙ insert-at_prefix p x xs
+
 all_above-lower : {X : Type 0} (f : X → ℕ) (m n : ℕ) (xs : List X) → m ≤ n → AllAbove f n xs → AllAbove f m xs
 all_above-lower f m n [] h a = tt
 all_above-lower f m n (x ∷ xs) h a = let a0 : n < f x = a.0 in (omega arith, all_above-lower f m n xs h a.1)
 
 all_above-insert : {X : Type 0} (f : X → ℕ) (p : X → Bool) (n : ℕ) (x : X) (xs : List X) → n < f x → AllAbove f n xs → AllAbove f n (insert_before p x xs)
-unfolding insert_before
 all_above-insert f p n x [] h a = (h, tt)
 all_above-insert f p n x (y ∷ ys) h a =
     elim (p y) as (λ t. AllAbove f n (cond t (x ∷ y ∷ ys) (y ∷ insert_before p x ys))) [
@@ -43,7 +44,6 @@ IsFree f n [] = Unit {0}
 IsFree f n (x ∷ xs) = ((f x == n) ≡ false) × IsFree f n xs
 
 rises-insert_before : {X : Type 0} (f : X → ℕ) (x : X) (xs : List X) → IsFree f (f x) xs → Rises f xs → Rises f (insert_before (λ v. nat_lt (f x) (f v)) x xs)
-unfolding insert_before
 rises-insert_before f x [] free r = (tt, tt)
 rises-insert_before f x (y ∷ ys) free r =
     elim (nat_lt (f x) (f y)) as (λ t. nat_lt (f x) (f y) ≡ t → Rises f (cond t (x ∷ y ∷ ys) (y ∷ insert_before (λ v. nat_lt (f x) (f v)) x ys))) [
@@ -56,7 +56,7 @@ rises-insert_before f x (y ∷ ys) free r =
 
 pub rises-insert : {X : Type 0} (f : X → ℕ) (x : X) (xs : List X) → IsFree f (f x) xs → Rises f xs → Rises f (insert xs (place_before (λ v. nat_lt (f x) (f v)) xs) x)
 rises-insert f x xs free r =
-    subst (λ ys. Rises f ys) (sym (ap (λ i. insert xs i x) (place-prefix (λ v. nat_lt (f x) (f v)) xs) ∙ insert-at_prefix _ x xs)) (rises-insert_before f x xs free r)
+    subst (λ ys. Rises f ys) (sym (insert-place (λ v. nat_lt (f x) (f v)) x xs)) (rises-insert_before f x xs free r)
 
 free_from_find : {X : Type 0} (f : X → ℕ) (n : ℕ) (xs : List X) → find (λ w. f w == n) xs ≡ None → IsFree f n xs
 free_from_find f n [] h = tt

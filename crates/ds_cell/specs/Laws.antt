@@ -1,5 +1,5 @@
 -- The laws of a kind, stated once for all kinds.
-use Rattle.std.specs.Prelude.{◌≡◌, ℕ, ◌≤◌, Bool, true, false, List, [], ◌∷◌, Option}
+use Rattle.std.specs.Prelude.{◌≡◌, ℕ, ◌≤◌, ◌<◌, Bool, true, false, List, [], ◌∷◌, Option}
 use Rattle.ds_base.specs.Order.{key_le, after}
 use Rattle.ds_base.specs.Ordered.{Ascends, between}
 use Rattle.ds_base.specs.declared.value.Value.{Value}
@@ -9,6 +9,7 @@ use Rattle.ds_cell.specs.declared.verdict.Verdict.TheVariants.{Keep, Put, Refuse
 use Rattle.ds_cell.specs.declared.verdict.Bit.{Bit}
 use Rattle.ds_cell.specs.Content.{Content}
 use Rattle.ds_cell.specs.Seen.{newest, under, own, version_at}
+use Rattle.ds_cell.specs.Change.{wrote}
 use Rattle.ds_cell.specs.Deed.{Sight, content_after}
 use Rattle.ds_cell.specs.Ask.{Cells, key_of, Asked, Failed, Gave, one_more, ask, joined, StandsIn}
 
@@ -37,6 +38,12 @@ Repeats (Refuse f) v = Unit {0}
 -- asked again with its number, a request changes nothing and answers the same, whatever stands beside by then
 abbrev pub RepeatLaw : (At → Content → Verdict) → Type 0
 RepeatLaw d = (at : At) (c c' : Content) → IsLater at (content_after at (d at c) c) c' → Repeats (d at c) (d at c')
+
+-- so a write of its transaction under a later number beside its own changes nothing for it
+abbrev pub BesideLaw : (At → Content → Verdict) → Type 0
+BesideLaw d =
+    (at next : At) (w : Option Value) (c : Content) → next.txn.0 ≡ at.txn.0 → next.epoch ≡ at.epoch → at.seq.0 < next.seq.0
+    → Repeats (d at c) (d at (wrote next w (content_after at (d at c) c)))
 
 -- each of these is found later, after what a request did, and under the same key
 abbrev pub AllLater : At → (Content → Verdict) → Cells → Cells → Type 0

@@ -9,7 +9,7 @@ ghost use Rattle.ds_cell.specs.Change.{wrote, after_foreign};
 ghost use Rattle.ds_cell.specs.declared.entry.At.{At};
 ghost use Rattle.ds_cell.specs.Deed.{deed, content_after, IsBitOf, IsFaultOf};
 ghost use Rattle.ds_cell.specs.Requests.{deed_of, BodyLaw, StillLaw, KeysLaw};
-ghost use Rattle.ds_cell.specs.Laws.{JoinLaw, PointLaw, RepeatLaw, RepeatSpanLaw, ReadsLaw, StaysLaw, FlagLaw, IsLater};
+ghost use Rattle.ds_cell.specs.Laws.{JoinLaw, PointLaw, RepeatLaw, RepeatSpanLaw, BesideLaw, ReadsLaw, StaysLaw, FlagLaw, IsLater};
 
 use crate::acts::Acts;
 use crate::cell::Cell;
@@ -48,13 +48,15 @@ pub fn act_request(
 
 /// Does nothing: its clauses are the laws of every kind. Asked on a span, a request is the join of
 /// itself on the two cuts, and on the span of one key it is what it does to that key. Asked again
-/// with its number, it changes nothing and answers the same, whatever stands beside by then. It reads
-/// only its span, and answers and writes only there. It writes only if its kind is flagged so.
+/// with its number, it changes nothing and answers the same, whatever stands beside by then, as a
+/// write under a later number. It reads only its span, and answers and writes only there. It writes
+/// only if its kind is flagged so.
 pub fn laws<K: Acts>(args: &K::Args)
     ensures join { (at : At) → JoinLaw (deed (is_numbered K.FLAGS) (K.judge args.now) K.again at) }
     ensures point { (at : At) → PointLaw (deed (is_numbered K.FLAGS) (K.judge args.now) K.again at) }
     ensures repeat { RepeatLaw (deed (is_numbered K.FLAGS) (K.judge args.now) K.again) }
     ensures repeat_span { RepeatSpanLaw (deed (is_numbered K.FLAGS) (K.judge args.now) K.again) }
+    ensures beside { BesideLaw (deed (is_numbered K.FLAGS) (K.judge args.now) K.again) }
     ensures reads { (at : At) → ReadsLaw (deed (is_numbered K.FLAGS) (K.judge args.now) K.again at) }
     ensures stays { (at : At) → StaysLaw (deed (is_numbered K.FLAGS) (K.judge args.now) K.again at) }
     ensures flags { (at : At) → FlagLaw K.FLAGS.write (deed (is_numbered K.FLAGS) (K.judge args.now) K.again at) }
@@ -71,6 +73,7 @@ pub fn request_laws(request: &Request)
     ensures point { (at : At) → PointLaw (deed_of request.now at) }
     ensures repeat { RepeatLaw (deed_of request.now) }
     ensures repeat_span { RepeatSpanLaw (deed_of request.now) }
+    ensures beside { BesideLaw (deed_of request.now) }
     ensures reads { (at : At) → ReadsLaw (deed_of request.now at) }
     ensures stays { (at : At) → StaysLaw (deed_of request.now at) }
     ensures flags { (at : At) → FlagLaw (flags_of (kind_of request.now)).write (deed_of request.now at) }

@@ -1,6 +1,7 @@
 use Rattle.ds_cell.specs.Requests.{deed_of}
 use Rattle.ds_cell.specs.LawProofs.{join_all, point_all, repeat_span_all, stays_all}
 use Rattle.ds_cell.proofs.ByKey.{by_key}
+use Rattle.ds_cell.proofs.LaterFacts.{beside_all}
 use Rattle.ds_cell.proofs.ReplyFacts.{bodies_join}
 use Rattle.ds_cell.proofs.RequestLaws.{repeat_of, writes_of}
 use Rattle.ds_cell.proofs.request.request_laws.Goals as goal
@@ -16,6 +17,9 @@ returns-clause-repeat c = repeat_of c.args.request.now
 
 pub returns-clause-repeat_span : goal.returns-clause-repeat_span
 returns-clause-repeat_span c = repeat_span_all (deed_of c.args.request.now) (repeat_of c.args.request.now)
+
+pub returns-clause-beside : goal.returns-clause-beside
+returns-clause-beside c = beside_all (deed_of c.args.request.now) (repeat_of c.args.request.now)
 
 pub returns-clause-stays : goal.returns-clause-stays
 returns-clause-stays c = λ at. stays_all (deed_of c.args.request.now at)

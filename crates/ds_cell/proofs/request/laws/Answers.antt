@@ -1,0 +1,5 @@
+use Rattle.ds_cell.proofs.LaterFacts.{beside_all}
+use Rattle.ds_cell.proofs.request.laws.Goals as goal
+
+pub returns-clause-beside : goal.returns-clause-beside
+returns-clause-beside g c = beside_all _ (g.met.K.Acts.repeat c.args.args.now)
