@@ -27,7 +27,7 @@ contents-from : (m s : List ℕ) (rs : List Range) → key_le m s ≡ true → T
 contents-from m s [] h t = tt
 contents-from m s (r ∷ rs) h t =
     from-append m r.cells (contents rs) (inside-from s (end_of r) m r.cells h t.0.inside)
-      (contents-from m (end_of r) rs (le_trans m s (end_of r) h (le_of_lt s (end_of r) t.0.some)) t.1)
+    (contents-from m (end_of r) rs (le_trans m s (end_of r) h (le_of_lt s (end_of r) t.0.some)) t.1)
 
 over-of-from : (k m : List ℕ) (cells : List Cell) → key_lt k m ≡ true → AllFrom key_of m cells → AllOver key_of k cells
 over-of-from k m [] h all = tt
@@ -49,7 +49,7 @@ pub contents-ascend : (s : List ℕ) (rs : List Range) → Tiles s rs → Ascend
 contents-ascend s [] t = tt
 contents-ascend s (r ∷ rs) t =
     ascends-append (end_of r) r.cells (contents rs) t.0.rising (inside-below s (end_of r) (end_of r) r.cells (le_itself (end_of r)) t.0.inside)
-      (contents-ascend (end_of r) rs t.1) (contents-from (end_of r) (end_of r) rs (le_itself (end_of r)) t.1)
+    (contents-ascend (end_of r) rs t.1) (contents-from (end_of r) (end_of r) rs (le_itself (end_of r)) t.1)
 
 find_more : (p : Range → Bool) (r : Range) (rs : List Range) (q : Range) → p r ≡ false → find p (r ∷ rs) ≡ Some q → find p rs ≡ Some q
 find_more p r rs q miss h = sym (ap (λ t. cond t (Some r) (find p rs)) miss) ∙ h
@@ -74,11 +74,11 @@ range-between p a (r ∷ rs) q s e t h low high =
       | true ↦ λ g.
           let same : q ≡ r = cc in
           let rest : between key_of s e (contents rs) ≡ [] =
-            none-from key_of s e (contents rs) (contents-from e (end_of r) rs (subst (λ z. key_le e (end_of z) ≡ true) same high) t.1) in
+          none-from key_of s e (contents rs) (contents-from e (end_of r) rs (subst (λ z. key_le e (end_of z) ≡ true) same high) t.1) in
           ap (λ z. between key_of s e z.cells) same ∙ sym (append-nil _) ∙ ap (λ zs. between key_of s e r.cells ++ zs) (sym rest) ∙ sym (cut-append key_of s e r.cells (contents rs))
       | false ↦ λ g.
           let after : key_le (end_of r) (start_of q) ≡ true = found-from p (end_of r) rs q t.1 g in
           let none : between key_of s e r.cells ≡ [] =
-            none-below key_of s e r.cells (inside-below a (end_of r) s r.cells (le_trans (end_of r) (start_of q) s after low) t.0.inside) in
+          none-below key_of s e r.cells (inside-below a (end_of r) s r.cells (le_trans (end_of r) (start_of q) s after low) t.0.inside) in
           range-between p (end_of r) rs q s e t.1 g low high ∙ ap (λ zs. zs ++ between key_of s e (contents rs)) (sym none) ∙ sym (cut-append key_of s e r.cells (contents rs))
     ] h

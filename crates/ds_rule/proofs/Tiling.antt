@@ -24,7 +24,8 @@ pub rises-tiles : (id : ℕ) (rs : List ClusterRange) → rises rs ≡ true → 
 rises-tiles id [] h = refl
 rises-tiles id (r ∷ rs) h = (
   record { begins = refl; some = and_first (key_lt r.start (next_start rs)) _ h; rising = tt; inside = tt },
-  rises-tiles (id + 1) rs (and_second (key_lt r.start (next_start rs)) _ h))
+  rises-tiles (id + 1) rs (and_second (key_lt r.start (next_start rs)) _ h),
+)
 
 inside-insert : (s e k : List ℕ) (c : Content) (cells : List Cell) → holds s e k ≡ true → Inside s e cells → Inside s e (insert_entry key_cmp cells k c)
 inside-insert s e k c [] h all = (h, tt)

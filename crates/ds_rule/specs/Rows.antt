@@ -39,4 +39,3 @@ rows_by g (p ∷ ps) = one_row p.0 (g p.1) (rows_by g ps)
 -- a scan of the whole span at once
 abbrev pub scan : (Content → Option Value) → List ℕ → List ℕ → List Cell → List Row
 scan g s e cells = rows_by g (between key_of s e cells)
-

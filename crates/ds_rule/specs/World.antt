@@ -66,7 +66,6 @@ abbrev pub Tiles : List ℕ → List Range → Type 0
 Tiles s [] = s ≡ bound
 Tiles s (r ∷ rs) = Fits s r × Tiles (end_of r) rs
 
-
 abbrev pub from_first : {X : Type 0} → (X → Bool) → List X → List X
 from_first p [] = []
 from_first p (x ∷ xs) = if p x then x ∷ xs else from_first p xs
