@@ -1,13 +1,12 @@
 -- UTF-8, and lists of names.
-use Rattle.std.proofs.Common.{◌≡◌, ℕ, ◌<◌, ◌≤◌, List, [], ◌∷◌, ◌++◌, length, map, Bool, true, false, eqb, ◌||◌, nat_lt, get_or, Bor, Some, None, refl, sym, ap, arith}
+use Rattle.std.proofs.Common.{◌≡◌, ℕ, ◌<◌, ◌≤◌, List, [], ◌∷◌, ◌++◌, length, map, Bool, true, false, ◌||◌, nat_lt, get_or, Bor, Some, None, refl, sym, ap, arith}
 use Rattle.std.specs.List.{list_any}
 use Rattle.std.proofs.lemmas.List.Folds.{list_all_at}
 use Rattle.std.specs.Str.{IsUtf8, chars}
-use Rattle.std.specs.Str.Lossy.{utf8_valid_len}
 use Rattle.std.proofs.lemmas.Str.{utf8_valid_len-IsUtf8}
 use Rattle.std.proofs.lemmas.Bool.Decides.{nat_tests}
 use Rattle.serde_json.specs.Read.{read}
-use Rattle.ds_fields.specs.Members.{text_of, is_named}
+use Rattle.ds_fields.specs.Members.{text_of}
 use Rattle.ds_fields.specs.Scalars.{latin, are_bytes}
 
 pub text_of-utf8 : (bs : List ℕ) → IsUtf8 bs → text_of bs ≡ read bs

@@ -1,8 +1,7 @@
 -- Worked examples.
-use Rattle.std.specs.Prelude.{◌≡◌, [], ◌∷◌, codes, true, false, Some, None, Ok, Err, pos, negsuc, refl}
+use Rattle.std.specs.Prelude.{◌≡◌, [], ◌∷◌, Some, None, Ok, Err, negsuc, refl}
 use Rattle.std.specs.Str.{chars}
-use Rattle.serde_json.specs.Data.{unsigned, negative, null, boolean, number, string, array, no_items, item}
-use Rattle.ds_base.specs.declared.value.Value.TheVariants as values
+use Rattle.serde_json.specs.Data.{unsigned, negative, null, number, string, array, no_items, item}
 use Rattle.ds_fields.specs.declared.fault.FaultKind.TheVariants.{Shape}
 use Rattle.ds_fields.specs.Scalars.{key_of, number_of, whole_of, value_of, value_or_null_of}
 use Rattle.ds_fields.specs.Lists.{list_of, nodes_of}

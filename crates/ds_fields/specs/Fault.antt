@@ -1,5 +1,5 @@
 -- Steps that may find a fault, and what a function that takes memory says of them.
-use Rattle.std.specs.Prelude.{◌≡◌, Bool, Option, Some, None, Result, Ok, Err}
+use Rattle.std.specs.Prelude.{◌≡◌, Option, Some, None, Result, Ok, Err}
 use Rattle.ds_fields.specs.declared.fault.FaultKind.{FaultKind}
 use Rattle.ds_fields.specs.declared.fault.FaultKind.TheVariants.{Shape}
 use Rattle.ds_fields.specs.declared.fault.LineFault.{LineFault}

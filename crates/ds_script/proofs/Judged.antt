@@ -1,12 +1,11 @@
 -- What is known of the lines of a script, one after another.
-use Rattle.std.proofs.Common.{◌≡◌, ℕ, List, [], ◌∷◌, Bool, true, false, not, ◌&&◌, Option, Some, None, is_some, Result, Ok, Err, refl}
+use Rattle.std.proofs.Common.{◌≡◌, ℕ, List, ◌∷◌, Bool, true, false, not, ◌&&◌, is_some, Result, Ok, Err, refl}
 use Rattle.ds_fields.specs.declared.fault.FaultKind.{FaultKind}
 use Rattle.ds_fields.specs.declared.fault.FaultKind.TheVariants.{Range, Order, LowWrite, TxnOpen}
 use Rattle.ds_fields.specs.Fault.{◌>>=◌}
 use Rattle.ds_script.specs.declared.line.Line.{Line}
 use Rattle.ds_script.specs.declared.line.Numbered.{Numbered}
 use Rattle.ds_script.specs.declared.state.State.{State}
-use Rattle.ds_script.specs.declared.state.Step.{Step}
 use Rattle.ds_script.specs.Limits.{line_fits}
 use Rattle.ds_script.specs.Rules.{require, leads, belongs, copies_after, high_enough, may_begin, top, after, turn, judge, walk, start, is_settled, numbers_rise, keeps_rules}
 

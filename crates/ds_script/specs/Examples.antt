@@ -1,26 +1,19 @@
 -- Worked examples.
-use Rattle.std.specs.Prelude.{◌≡◌, ℕ, List, [], ◌∷◌, codes, Bool, true, false, Option, Some, None, Result, Ok, Err, replicate, pos, refl}
-use Rattle.serde_json.specs.Data.{Data, unsigned, null, boolean, number, string, array, object, no_items, no_members, member}
-use Rattle.ds_base.specs.declared.key.Key.{Key}
-use Rattle.ds_base.specs.declared.value.Stamp.{Stamp}
-use Rattle.ds_kind.specs.declared.batch.Batch.{Batch}
+use Rattle.std.specs.Prelude.{◌≡◌, ℕ, List, [], ◌∷◌, codes, true, false, Some, None, Ok, Err, replicate, pos, refl}
+use Rattle.serde_json.specs.Data.{Data, unsigned, boolean, number, string, object, no_members, member}
 use Rattle.ds_kind.specs.declared.request.Request.{Request}
 use Rattle.ds_kind.specs.declared.request.Request.TheVariants.{Get, Put}
 use Rattle.ds_base.specs.declared.value.Value.TheVariants.{Int}
-use Rattle.ds_rule.specs.declared.event.Event.{Event}
 use Rattle.ds_rule.specs.declared.event.Event.TheVariants as events
-use Rattle.ds_fields.specs.declared.fault.FaultKind.{FaultKind}
 use Rattle.ds_fields.specs.declared.fault.FaultKind.TheVariants.{Shape, Order, LowWrite, TxnOpen}
 use Rattle.ds_fields.specs.Members.{op_of}
-use Rattle.ds_fields.specs.Scalars.{whole_of, number_of}
 use Rattle.ds_script.specs.declared.line.Line.{Line}
 use Rattle.ds_script.specs.declared.line.Line.TheVariants as lines
-use Rattle.ds_script.specs.declared.state.OpenTxn.{OpenTxn}
 use Rattle.ds_script.specs.declared.state.State.{State}
 use Rattle.ds_script.specs.Events.{timed}
 use Rattle.ds_script.specs.Forms.{form_of, line_by, close_of, range, cluster, batch, block, begin, at_of}
 use Rattle.ds_script.specs.Happenings.{happening_of}
-use Rattle.ds_script.specs.Limits.{key_fits, point_fits, stamp_fits, range_fits, line_fits}
+use Rattle.ds_script.specs.Limits.{key_fits, stamp_fits, line_fits}
 use Rattle.ds_script.specs.Rules.{opened, turn, claims, step}
 use Rattle.ds_script.specs.Script.{fault, script_of}
 use Rattle.ds_script.specs.Split.{lines_of}

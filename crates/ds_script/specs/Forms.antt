@@ -8,7 +8,6 @@ use Rattle.ds_base.specs.declared.value.Stamp.{Stamp}
 use Rattle.ds_desc.specs.declared.nodes.Nodes.{Nodes}
 use Rattle.ds_kind.specs.declared.request.Request.{Request}
 use Rattle.ds_kind.specs.declared.batch.Batch.{Batch}
-use Rattle.ds_rule.specs.declared.cluster.Cluster.{Cluster}
 use Rattle.ds_rule.specs.declared.cluster.ClusterRange.{ClusterRange}
 use Rattle.ds_rule.specs.declared.event.Block.{Block}
 use Rattle.ds_rule.specs.declared.event.Timed.{Timed}

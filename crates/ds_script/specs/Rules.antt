@@ -1,5 +1,5 @@
 -- The rules over the lines of a script, judged one line after another.
-use Rattle.std.specs.Prelude.{ℕ, List, [], ◌∷◌, length, max, Bool, true, false, not, ◌&&◌, ◌||◌, ◌==◌, nat_le, nat_lt, if◌then◌else◌, Option, Some, None, is_some, Result, Ok, Err}
+use Rattle.std.specs.Prelude.{ℕ, List, [], ◌∷◌, max, Bool, true, false, not, ◌&&◌, ◌||◌, ◌==◌, nat_le, nat_lt, if◌then◌else◌, Option, Some, None, is_some, Result, Ok, Err}
 use Rattle.std.specs.List.{list_all}
 use Rattle.std.specs.Map.{lookup}
 use Rattle.std.specs.Ordering.{nat_cmp, is_eq}
@@ -8,7 +8,6 @@ use Rattle.ds_base.specs.declared.key.Key.{Key}
 use Rattle.ds_base.specs.declared.value.Stamp.{Stamp}
 use Rattle.ds_kind.specs.Flags.{flags_of}
 use Rattle.ds_kind.specs.Request.{kind_of}
-use Rattle.ds_kind.specs.declared.batch.Batch.{Batch}
 use Rattle.ds_kind.specs.declared.name.KindName.{KindName}
 use Rattle.ds_kind.specs.declared.name.KindName.TheVariants.{Get, Scan, ReverseScan}
 use Rattle.ds_kind.specs.declared.request.Request.{Request}

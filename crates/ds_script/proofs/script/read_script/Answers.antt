@@ -1,4 +1,4 @@
-use Rattle.std.proofs.Common.{◌≡◌, ℕ, ◌<◌, ◌≤◌, false, true, sym, ◌∙◌, arith}
+use Rattle.std.proofs.Common.{◌≡◌, ◌≤◌, false, true, sym, ◌∙◌, arith}
 use Rattle.ds_script.specs.Rules.{start}
 use Rattle.ds_script.specs.Script.{numbered}
 use Rattle.ds_script.specs.Split.{is_blank}
