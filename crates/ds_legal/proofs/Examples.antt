@@ -6,8 +6,8 @@ use Rattle.ds_kind.specs.declared.batch.Batch.{Batch}
 use Rattle.ds_kind.specs.declared.request.Request.{Request}
 use Rattle.ds_kind.specs.declared.request.Request.TheVariants.{Get, Scan, ReverseScan, Put, EndTxn}
 use Rattle.ds_kind.specs.declared.illegal.Illegal.TheVariants as Breaks
-use Rattle.ds_legal.specs.Numbers.{numbers_from}
-use Rattle.ds_legal.specs.Parts.{parts_of}
+use Rattle.ds_kind.specs.Numbers.{numbers_from}
+use Rattle.ds_kind.specs.Parts.{parts_of}
 use Rattle.ds_legal.specs.Rules.{first_illegal, empty, too_many, bad_span, end_txn_place, needs_a_txn, inconsistent_txn, inconsistent_write, limit_kind, limit_mixed, limit_order, no_txn_parts}
 
 abbrev get_a : Request

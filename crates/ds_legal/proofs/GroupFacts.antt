@@ -7,7 +7,7 @@ use Rattle.std.proofs.lemmas.Bool.Decides.{nat_tests}
 use Rattle.std.proofs.lemmas.List.Elements.{All-nil, All-cons}
 use Rattle.std.specs.Option.{is_some}
 use Rattle.ds_legal.specs.Firsts.{Answers, IsFirst, FindsFirst}
-use Rattle.ds_legal.specs.Groups.{first_after, first_where, groups_from, groups}
+use Rattle.ds_kind.specs.Groups.{first_after, first_where, groups_from, groups}
 
 -- a step of a search that has come to the place i
 pub first_passed : {A : Type 0} (test : List A → A → Bool) (xs : List A) (i : ℕ) (d : A) → i < length xs → test (take i xs) (get_or xs i d) ≡ false → first_after test (take i xs) (drop i xs) ≡ first_after test (take (i + 1) xs) (drop (i + 1) xs)

@@ -6,9 +6,9 @@ use Rattle.std.proofs.lemmas.List.Recursion.{is_position_or_len}
 use Rattle.std.specs.Option.{is_some, is_none}
 use Rattle.ds_kind.specs.declared.batch.Batch.{Batch}
 use Rattle.ds_kind.specs.declared.illegal.Illegal.{Illegal}
-use Rattle.ds_legal.specs.Asks.{has_proper_span, is_end, needs_txn, is_get_or_scan, knows_limit, acts}
-use Rattle.ds_legal.specs.Groups.{groups}
-use Rattle.ds_legal.specs.Parts.{may_join, before_last}
+use Rattle.ds_kind.specs.Asks.{has_proper_span, is_end, needs_txn, is_get_or_scan, knows_limit, acts}
+use Rattle.ds_kind.specs.Groups.{groups}
+use Rattle.ds_kind.specs.Parts.{may_join, before_last}
 use Rattle.ds_legal.specs.Rules.{fault_if, fault_at, first_of, first_illegal, empty, too_many, bad_span, end_txn_place, needs_a_txn, inconsistent_txn, inconsistent_write, limit_kind, limit_mixed, limit_order, no_txn_parts}
 use Rattle.ds_legal.specs.Legal.{IsLegal}
 

@@ -4,8 +4,8 @@ use Rattle.std.specs.List.{list_any, list_all}
 use Rattle.ds_kind.specs.Flags.{fit, same}
 use Rattle.ds_kind.specs.declared.flags.Flags.{Flags}
 use Rattle.ds_kind.specs.declared.request.Request.{Request}
-use Rattle.ds_legal.specs.Asks.{flags_at, is_alone, is_end}
-use Rattle.ds_legal.specs.Parts.{may_join}
+use Rattle.ds_kind.specs.Asks.{flags_at, is_alone, is_end}
+use Rattle.ds_kind.specs.Parts.{may_join}
 use Rattle.ds_legal.specs.declared.mix.Mix.{Mix}
 use Rattle.ds_legal.specs.Mix.{mix_of, mix_with, mix_fits, reads_only, writes, goes_forward, goes_back}
 

@@ -3,8 +3,8 @@ use Rattle.std.proofs.Common.{◌≡◌, ℕ, suc, ◌+◌, ◌≤◌, Bool, tru
 use Rattle.std.specs.List.{count_by}
 use Rattle.std.proofs.lemmas.List.Sums.{sum_by-cons}
 use Rattle.ds_kind.specs.declared.request.Request.{Request}
-use Rattle.ds_legal.specs.Asks.{takes_number}
-use Rattle.ds_legal.specs.Numbers.{next_number, numbers_from, last_number, NeverFall}
+use Rattle.ds_kind.specs.Asks.{takes_number}
+use Rattle.ds_kind.specs.Numbers.{next_number, numbers_from, last_number, NeverFall}
 
 pub numbers_one_each : (last : ℕ) (rs : List Request) → length (numbers_from last rs) ≡ length rs
 numbers_one_each last [] = refl

@@ -14,10 +14,10 @@ use Rattle.ds_kind.specs.declared.batch.Part.{Part}
 use Rattle.ds_kind.specs.declared.request.Request.{Request}
 use Rattle.ds_kind.specs.declared.request.Request.TheVariants.{EndTxn}
 use Rattle.ds_kind.proofs.FitFacts.{alone_fits_nothing, fit_symmetric}
-use Rattle.ds_legal.specs.Asks.{flags_at, is_alone, is_end, needs_txn, knows_limit, acts, fits_all}
-use Rattle.ds_legal.specs.Groups.{groups, groups_from, first_where}
+use Rattle.ds_kind.specs.Asks.{flags_at, is_alone, is_end, needs_txn, knows_limit, acts, fits_all}
+use Rattle.ds_kind.specs.Groups.{groups, groups_from, first_where}
 use Rattle.ds_legal.specs.Legal.{IsLegal}
-use Rattle.ds_legal.specs.Parts.{may_join, item_may_join, items_from, requests_of, part_of, parts_of, before_last, all_fit, is_apart, IsPart, all_items, AreParts, EachRequest}
+use Rattle.ds_kind.specs.Parts.{may_join, item_may_join, items_from, requests_of, part_of, parts_of, before_last, all_fit, is_apart, IsPart, all_items, AreParts, EachRequest}
 use Rattle.ds_legal.specs.Rules.{is_misfit}
 use Rattle.ds_legal.proofs.GroupFacts.{groups_joined, groups_each, groups_split, groups_some, groups_map}
 use Rattle.ds_legal.proofs.MixFacts.{any_push}

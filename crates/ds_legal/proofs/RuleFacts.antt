@@ -12,8 +12,8 @@ use Rattle.std.specs.Option.{option_map_or}
 use Rattle.ds_kind.specs.Reach.{At, extent_of}
 use Rattle.ds_kind.specs.Request.{reach_of, span_of}
 use Rattle.ds_kind.specs.declared.request.Request.{Request}
-use Rattle.ds_legal.specs.Asks.{flags_at, overtakes}
-use Rattle.ds_legal.specs.Groups.{first_after}
+use Rattle.ds_kind.specs.Asks.{flags_at, overtakes}
+use Rattle.ds_kind.specs.Groups.{first_after}
 use Rattle.ds_legal.specs.Mix.{mix_of, mix_with, mix_fits}
 use Rattle.ds_legal.specs.declared.mix.Mix.{Mix}
 use Rattle.ds_legal.specs.Rules.{is_misfit, is_overtaken}

@@ -1,6 +1,6 @@
 -- What it means to be the first place at which a test holds.
 use Rattle.std.specs.Prelude.{◌≡◌, ℕ, ◌<◌, Bool, true, false, List, Some, None, length, take, slice_index_or}
-use Rattle.ds_legal.specs.Groups.{first_where}
+use Rattle.ds_kind.specs.Groups.{first_where}
 
 -- the element at i, beside those before it, gives this answer
 abbrev pub Answers : {A : Type 0} → (List A → A → Bool) → List A → ℕ → Bool → Type 0

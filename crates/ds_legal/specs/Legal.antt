@@ -3,9 +3,9 @@ use Rattle.std.specs.Prelude.{◌≡◌, ◌<◌, ◌≤◌, true, false, None, 
 use Rattle.std.specs.List.{list_all, list_any}
 use Rattle.std.specs.Option.{is_some}
 use Rattle.ds_kind.specs.declared.batch.Batch.{Batch}
-use Rattle.ds_legal.specs.Asks.{has_proper_span, is_end, needs_txn, is_get_or_scan, knows_limit, is_delete_range, acts}
-use Rattle.ds_legal.specs.Groups.{first_where, groups}
-use Rattle.ds_legal.specs.Parts.{may_join, before_last}
+use Rattle.ds_kind.specs.Asks.{has_proper_span, is_end, needs_txn, is_get_or_scan, knows_limit, is_delete_range, acts}
+use Rattle.ds_kind.specs.Groups.{first_where, groups}
+use Rattle.ds_kind.specs.Parts.{may_join, before_last}
 use Rattle.ds_legal.specs.Rules.{is_misfit, is_overtaken}
 
 pub record IsLegal (b : Batch) : Type 0 where

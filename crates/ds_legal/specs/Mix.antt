@@ -3,7 +3,7 @@ use Rattle.std.specs.Prelude.{Bool, not, ◌&&◌, ◌||◌, List, if◌then◌e
 use Rattle.std.specs.List.{list_any}
 use Rattle.ds_kind.specs.declared.flags.Flags.{Flags}
 use Rattle.ds_kind.specs.declared.request.Request.{Request}
-use Rattle.ds_legal.specs.Asks.{flags_at, is_alone}
+use Rattle.ds_kind.specs.Asks.{flags_at, is_alone}
 use Rattle.ds_legal.specs.declared.mix.Mix.{Mix}
 
 abbrev pub writes : Request → Bool

@@ -6,9 +6,9 @@ use Rattle.ds_kind.specs.declared.batch.Batch.{Batch}
 use Rattle.ds_kind.specs.declared.illegal.Illegal.{Illegal}
 use Rattle.ds_kind.specs.declared.illegal.Illegal.TheVariants as Breaks
 use Rattle.ds_kind.specs.declared.request.Request.{Request}
-use Rattle.ds_legal.specs.Asks.{has_proper_span, is_end, needs_txn, is_get_or_scan, knows_limit, fits_all, is_delete_range, overtakes, acts}
-use Rattle.ds_legal.specs.Groups.{first_where, groups}
-use Rattle.ds_legal.specs.Parts.{may_join, before_last}
+use Rattle.ds_kind.specs.Asks.{has_proper_span, is_end, needs_txn, is_get_or_scan, knows_limit, fits_all, is_delete_range, overtakes, acts}
+use Rattle.ds_kind.specs.Groups.{first_where, groups}
+use Rattle.ds_kind.specs.Parts.{may_join, before_last}
 
 -- the fault, where there is a reason for it
 abbrev pub fault_if : Bool → Illegal → Option Illegal

@@ -1,7 +1,7 @@
 //! What the rules ask of one request, and the first request of which it holds.
 ghost use Rattle.std.specs.Prelude.{◌≡◌, ◌<◌, ◌∷◌, [], not, length, IfSome};
 ghost use Rattle.std.specs.List.{position, list_any};
-ghost use Rattle.ds_legal.specs.Asks as Ask;
+ghost use Rattle.ds_kind.specs.Asks as Ask;
 
 use ds_base::Key;
 use ds_kind::{Bounds, Request};

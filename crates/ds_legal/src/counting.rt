@@ -1,8 +1,8 @@
 //! The sequence numbers of a batch's requests.
 ghost use Rattle.std.specs.Prelude.{◌≡◌, ◌≤◌, ◌+◌, length, IfOk};
 ghost use Rattle.std.specs.List.{count_by};
-ghost use Rattle.ds_legal.specs.Asks.{takes_number};
-ghost use Rattle.ds_legal.specs.Numbers.{numbers_from, last_number, NeverFall};
+ghost use Rattle.ds_kind.specs.Asks.{takes_number};
+ghost use Rattle.ds_kind.specs.Numbers.{numbers_from, last_number, NeverFall};
 
 use crate::legal::Legal;
 use ds_base::Seq;

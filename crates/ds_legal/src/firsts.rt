@@ -2,8 +2,8 @@
 ghost use Rattle.std.specs.Prelude.{◌≡◌, ◌<◌, length, IfSome, List, Bool};
 ghost use Rattle.ds_kind.specs.declared.request.Request.{Request};
 ghost use Rattle.ds_legal.specs.Firsts.{FindsFirst};
-ghost use Rattle.ds_legal.specs.Asks.{overtakes};
-ghost use Rattle.ds_legal.specs.Groups.{first_where};
+ghost use Rattle.ds_kind.specs.Asks.{overtakes};
+ghost use Rattle.ds_kind.specs.Groups.{first_where};
 ghost use Rattle.ds_legal.specs.Rules.{is_misfit, is_overtaken};
 ghost use Rattle.ds_kind.specs.Request.{span_of};
 

@@ -1,9 +1,9 @@
 //! The parts that a batch is sent in.
 ghost use Rattle.std.specs.Prelude.{◌≡◌, ◌≤◌, ◌++◌, ◌∷◌, ◌&&◌, not, true, [], List, map, length, IfOk, OnOk};
 ghost use Rattle.ds_kind.specs.declared.batch.Item.{Item};
-ghost use Rattle.ds_legal.specs.Asks.{is_end, has_proper_span, knows_limit, acts};
-ghost use Rattle.ds_legal.specs.Groups.{groups_from};
-ghost use Rattle.ds_legal.specs.Parts.{may_join, item_may_join, items_from, part_of, parts_of, requests_of, AreParts, EachRequest};
+ghost use Rattle.ds_kind.specs.Asks.{is_end, has_proper_span, knows_limit, acts};
+ghost use Rattle.ds_kind.specs.Groups.{groups_from};
+ghost use Rattle.ds_kind.specs.Parts.{may_join, item_may_join, items_from, part_of, parts_of, requests_of, AreParts, EachRequest};
 ghost use Rattle.std.specs.List.{list_any};
 ghost use Rattle.std.specs.Option.{is_some};
 
@@ -27,7 +27,7 @@ impl Model for Open {
     ghost use Rattle.std.specs.Prelude.{◌≡◌, List};
     ghost use Rattle.ds_kind.specs.declared.batch.Item.{Item};
     ghost use Rattle.ds_legal.specs.Mix.{mix_of};
-    ghost use Rattle.ds_legal.specs.Parts.{requests_of};
+    ghost use Rattle.ds_kind.specs.Parts.{requests_of};
 
     ghost Value = { List Item };
 

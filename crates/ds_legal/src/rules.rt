@@ -1,7 +1,7 @@
 //! The rules, each as a test of the batch.
 ghost use Rattle.std.specs.Prelude.{◌≡◌, ◌≤◌, Some, None, true, length, nat_lt, MatchResult};
-ghost use Rattle.ds_legal.specs.Groups.{groups};
-ghost use Rattle.ds_legal.specs.Parts.{may_join};
+ghost use Rattle.ds_kind.specs.Groups.{groups};
+ghost use Rattle.ds_kind.specs.Parts.{may_join};
 ghost use Rattle.ds_legal.specs.Rules as Rule;
 
 use crate::{asks, firsts};

@@ -1,6 +1,6 @@
 use Rattle.std.proofs.Common.{◌≡◌, ap, ◌∙◌, length, sym, subst, arith}
 use Rattle.std.proofs.lemmas.Grind.{common_steps}
-use Rattle.ds_legal.specs.Numbers.{numbers_from, last_number, NeverFall}
+use Rattle.ds_kind.specs.Numbers.{numbers_from, last_number, NeverFall}
 use Rattle.ds_legal.proofs.NumberFacts.{numbers_one_each, numbers_never_fall, numbers_end}
 use Rattle.ds_legal.proofs.counting.numbers.Goals as goal
 

@@ -1,5 +1,5 @@
 use Rattle.std.proofs.Common.{◌≡◌, ◌≤◌, ◌+◌, ◌++◌, drop}
-use Rattle.ds_legal.specs.Numbers.{numbers_from}
+use Rattle.ds_kind.specs.Numbers.{numbers_from}
 use Rattle.ds_legal.proofs.counting.numbers.Given as goal
 
 -- the numbers so far, with those of the rest, are the numbers of all

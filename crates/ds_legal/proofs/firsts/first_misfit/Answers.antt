@@ -1,5 +1,5 @@
 use Rattle.std.proofs.Common.{sym, ap, ◌∙◌, arith, ◌≡◌, true, false}
-use Rattle.ds_legal.specs.Asks.{flags_at}
+use Rattle.ds_kind.specs.Asks.{flags_at}
 use Rattle.ds_legal.specs.Mix.{mix_fits, mix_with}
 use Rattle.ds_legal.proofs.RuleFacts.{misfit_found, misfit_passed, mix_more}
 use Rattle.ds_legal.proofs.firsts.first_misfit.Goals as goal

@@ -1,5 +1,5 @@
 use Rattle.std.proofs.Common.{sym, ◌∙◌, arith, ◌≡◌, true, false}
-use Rattle.ds_legal.specs.Asks.{overtakes}
+use Rattle.ds_kind.specs.Asks.{overtakes}
 use Rattle.ds_legal.proofs.RuleFacts.{overtaken_found, overtaken_passed}
 use Rattle.ds_legal.proofs.firsts.first_overtaken.Goals as goal
 

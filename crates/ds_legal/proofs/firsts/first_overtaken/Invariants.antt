@@ -1,5 +1,5 @@
 use Rattle.std.proofs.Common.{◌≡◌, take, drop}
-use Rattle.ds_legal.specs.Groups.{first_after, first_where}
+use Rattle.ds_kind.specs.Groups.{first_after, first_where}
 use Rattle.ds_legal.specs.Rules.{is_overtaken}
 use Rattle.ds_legal.proofs.firsts.first_overtaken.Given as goal
 

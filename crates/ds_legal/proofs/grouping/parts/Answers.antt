@@ -1,7 +1,7 @@
 use Rattle.std.proofs.Common.{◌≡◌, arith}
 use Rattle.std.proofs.lemmas.Grind.{common_steps}
-use Rattle.ds_legal.specs.Asks.{has_proper_span, knows_limit}
-use Rattle.ds_legal.specs.Parts.{parts_of}
+use Rattle.ds_kind.specs.Asks.{has_proper_span, knows_limit}
+use Rattle.ds_kind.specs.Parts.{parts_of}
 use Rattle.ds_legal.proofs.PartFacts.{are_parts, each_request, one_if_acting, one_if_limited}
 use Rattle.ds_legal.proofs.grouping.parts.Goals as goal
 

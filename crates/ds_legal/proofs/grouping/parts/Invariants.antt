@@ -1,6 +1,6 @@
 use Rattle.std.proofs.Common.{◌≡◌, ◌++◌, [], map, drop}
-use Rattle.ds_legal.specs.Groups.{groups_from}
-use Rattle.ds_legal.specs.Parts.{item_may_join, items_from, part_of}
+use Rattle.ds_kind.specs.Groups.{groups_from}
+use Rattle.ds_kind.specs.Parts.{item_may_join, items_from, part_of}
 use Rattle.ds_legal.proofs.grouping.parts.Given as goal
 
 -- the parts so far, with those that the rest makes after the last one, are the parts of all

@@ -1,6 +1,6 @@
 use Rattle.std.proofs.Common.{sym, ap, ◌∙◌, true, refl}
 use Rattle.std.specs.Option.{is_some}
-use Rattle.ds_legal.specs.Parts.{may_join}
+use Rattle.ds_kind.specs.Parts.{may_join}
 use Rattle.ds_legal.proofs.GroupFacts.{groups_split}
 use Rattle.ds_legal.proofs.rules.is_split.Goals as goal
 

@@ -1,7 +1,7 @@
 use Rattle.std.proofs.Common.{◌≡◌, not, ◌&&◌, false, cond, sym, ap, ◌∙◌}
-use Rattle.ds_legal.specs.Asks.{flags_at, is_end}
+use Rattle.ds_kind.specs.Asks.{flags_at, is_end}
 use Rattle.ds_legal.specs.Mix.{mix_of, mix_fits}
-use Rattle.ds_legal.specs.Parts.{requests_of}
+use Rattle.ds_kind.specs.Parts.{requests_of}
 use Rattle.ds_legal.proofs.MixFacts.{join_by_mix}
 use Rattle.ds_legal.proofs.grouping.Open.takes.Goals as goal
 

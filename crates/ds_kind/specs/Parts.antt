@@ -8,8 +8,8 @@ use Rattle.ds_kind.specs.Flags.{fit}
 use Rattle.ds_kind.specs.declared.batch.Item.{Item}
 use Rattle.ds_kind.specs.declared.batch.Part.{Part}
 use Rattle.ds_kind.specs.declared.request.Request.{Request}
-use Rattle.ds_legal.specs.Asks.{flags_at, is_alone, is_end, is_reverse_scan, fits_all}
-use Rattle.ds_legal.specs.Groups.{groups}
+use Rattle.ds_kind.specs.Asks.{flags_at, is_alone, is_end, is_reverse_scan, fits_all}
+use Rattle.ds_kind.specs.Groups.{groups}
 
 -- a request joins where it may stand with each one there; an end that is not split off joins
 -- unless one there stands alone

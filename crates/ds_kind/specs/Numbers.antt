@@ -2,7 +2,7 @@
 use Rattle.std.specs.Prelude.{ℕ, ◌+◌, ◌≤◌, List, [], ◌∷◌, if◌then◌else◌}
 use Rattle.ds_base.specs.declared.value.Seq.{Seq}
 use Rattle.ds_kind.specs.declared.request.Request.{Request}
-use Rattle.ds_legal.specs.Asks.{takes_number}
+use Rattle.ds_kind.specs.Asks.{takes_number}
 
 -- the number of a request, after the last one given
 abbrev pub next_number : ℕ → Request → ℕ
