@@ -10,9 +10,13 @@ use Rattle.ds_cell.specs.declared.verdict.Bit.{Bit}
 use Rattle.ds_cell.specs.declared.verdict.ActFault.{ActFault}
 use Rattle.ds_cell.specs.Content.{Content, no_content}
 
+-- a key with what stands there
+abbrev pub Cell : Type 0
+Cell = List ℕ × Content
+
 -- contents by key, in the order of the keys
 abbrev pub Cells : Type 0
-Cells = List (List ℕ × Content)
+Cells = List Cell
 
 abbrev pub key_of : {X : Type 0} → (List ℕ × X) → List ℕ
 key_of p = p.0

@@ -8,3 +8,4 @@ pub mod Laws
 pub mod Replies
 pub mod Requests
 pub mod Seen
+pub mod Store

@@ -14,10 +14,7 @@ use Rattle.ds_rule.specs.declared.event.Event.{Event}
 use Rattle.ds_rule.specs.declared.event.Event.TheVariants.{Write}
 use Rattle.ds_rule.specs.World.{World}
 use Rattle.ds_rule.specs.Journal.{Happening, Moved, Did, Runs}
-
-abbrev pub Each : {X : Type 0} → (X → Type 0) → List X → Type 0
-Each P [] = Unit {0}
-Each P (x ∷ xs) = P x × Each P xs
+use Rattle.ds_rule.specs.Pieces.{Each}
 
 -- what a wire stands for: the world as it is, all that happened so far, the floor that foreign writes stay above,
 -- how many sends were refused and answers lost, and the picks still to come

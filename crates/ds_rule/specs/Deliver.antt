@@ -2,77 +2,26 @@
 use Rattle.std.specs.Prelude.{◌≡◌, ℕ, Bool, true, false, not, ◌&&◌, List, [], ◌∷◌, ◌++◌, map, take, filter, find, Option, Some, None, ◌==◌, if◌then◌else◌}
 use Rattle.std.specs.List.{list_any, list_all}
 use Rattle.ds_base.specs.Order.{key_lt, key_le}
-use Rattle.ds_base.specs.declared.value.TxnNo.{TxnNo}
-use Rattle.ds_base.specs.declared.value.Value.{Value}
 use Rattle.ds_desc.specs.declared.desc.Info.{Info}
 use Rattle.ds_desc.specs.declared.refusal.Refusal.{Refusal}
 use Rattle.ds_desc.specs.declared.refusal.Refusal.TheVariants.{NotFound, NotLease, Mismatch}
 use Rattle.ds_kind.specs.Request.{span_of}
-use Rattle.ds_kind.specs.declared.request.Request.{Request}
-use Rattle.ds_kind.specs.declared.request.Request.TheVariants.{Scan}
 use Rattle.ds_kind.specs.declared.batch.Item.{Item}
-use Rattle.ds_kind.specs.declared.batch.Head.{Head}
 use Rattle.ds_kind.specs.declared.batch.Piece.{Piece}
-use Rattle.ds_kind.specs.declared.reply.Reply.{Reply}
-use Rattle.ds_kind.specs.declared.reply.Body.TheVariants as Body
 use Rattle.ds_kind.specs.declared.reply.Failure.{Failure}
 use Rattle.ds_kind.specs.declared.reply.Failure.TheVariants.{Aborted, Committed}
-use Rattle.ds_cell.specs.declared.entry.At.{At}
-use Rattle.ds_cell.specs.Content.{Content}
-use Rattle.ds_cell.specs.Seen.{seen}
+use Rattle.ds_cell.specs.Ask.{Cell}
 use Rattle.ds_rule.specs.declared.answer.Answer.{Answer}
 use Rattle.ds_rule.specs.declared.answer.Answer.TheVariants.{Done, Failed, Refused, Lost}
 use Rattle.ds_rule.specs.declared.record.TxnRecord.{TxnRecord}
 use Rattle.ds_rule.specs.declared.record.RecordStatus.{RecordStatus}
 use Rattle.ds_rule.specs.declared.record.RecordStatus.TheVariants as Status
-use Rattle.ds_rule.specs.Rows.{Cell, scan}
+use Rattle.ds_rule.specs.Asking.{Made, Gives, Fails, ask_all, finished, txn_of}
 use Rattle.ds_rule.specs.World.{World, Range, start_of, end_of, in_order}
 
 -- the range holds the item's span
 abbrev pub holds_item : Range → Item → Bool
 holds_item r i = key_le (start_of r) (span_of i.request).start && key_le (span_of i.request).end (end_of r)
-
--- the number of the transaction that a piece is of, 0 without one
-abbrev pub txn_of : Head → ℕ
-txn_of h = number_of h.txn
-  where
-    number_of : Option TxnNo → ℕ
-    number_of None = 0
-    number_of (Some t) = t.0
-
--- who asks under the number n
-abbrev pub at_of : Head → ℕ → At
-at_of h n = record { stamp = h.at; txn = record { 0 = txn_of h }; epoch = h.epoch; seq = record { 0 = n } }
-
--- the value that a request under the number n sees at a key
-abbrev pub sees : Head → ℕ → Content → Option Value
-sees h n c = seen (at_of h n) n c
-
--- what the items made: cells and replies, or the first failure
-pub data Made : Type 0 where
-  Gave : List Cell → List Reply → Made
-  Stopped : Failure → Made
-
-abbrev pub add_replies : List Reply → Made → Made
-add_replies rs (Stopped f) = Stopped f
-add_replies rs (Gave cells more) = Gave cells (rs ++ more)
-
-abbrev pub and_then_made : Made → (List Cell → Made) → Made
-and_then_made (Stopped f) next = Stopped f
-and_then_made (Gave cells rs) next = add_replies rs (next cells)
-
-abbrev pub scan_reply : Head → ℕ → List ℕ → List ℕ → List Cell → Reply
-scan_reply h n s e cells = record { body = Body.Rows (scan (sees h n) s e cells); resume = None }
-
--- what one request does to the cells of its range, and its reply; kinds that aren't built yet do nothing
-abbrev pub serve_request : Head → ℕ → Request → List Cell → Made
-serve_request h n (Scan a) cells = Gave cells (scan_reply h n a.start a.end cells ∷ [])
-serve_request h n r cells = Gave cells (record { body = Body.Unit; resume = None } ∷ [])
-
--- the items in order
-abbrev pub serve : Head → List Item → List Cell → Made
-serve h [] cells = Gave cells []
-serve h (i ∷ is) cells = and_then_made (serve_request h i.seq.0 i.request cells) (serve h is)
 
 -- the first that passes, changed
 abbrev pub replaced : (Range → Bool) → (Range → Range) → List Range → List Range
@@ -108,25 +57,25 @@ status_stops (Some t) = by t.status
     by (Status.Staging fs) = None
 
 abbrev pub answer_made : Made → Answer
-answer_made (Stopped f) = Failed f
-answer_made (Gave cells rs) = Done rs
+answer_made (Fails f) = Failed f
+answer_made (Gives cells ws rs) = Done rs
 
-abbrev pub world_made : World → ℕ → Made → World
-world_made w id (Stopped f) = w
-world_made w id (Gave cells rs) = with_cells id cells w
+abbrev pub world_made : World → Piece → Made → World
+world_made w p (Fails f) = w
+world_made w p (Gives cells ws rs) = with_cells p.range (finished p.head ws cells) w
 
 -- why a piece is not served
 pub data Stop : Type 0 where
   Turned : Refusal → Stop
-  Fails : Failure → Stop
+  Ended : Failure → Stop
 
 abbrev pub stop_answer : Stop → Answer
 stop_answer (Turned r) = Refused r
-stop_answer (Fails f) = Failed f
+stop_answer (Ended f) = Failed f
 
-abbrev pub fails : Option Failure → Option Stop
-fails None = None
-fails (Some f) = Some (Fails f)
+abbrev pub ends : Option Failure → Option Stop
+ends None = None
+ends (Some f) = Some (Ended f)
 
 -- why the piece is not served, if it is not: the first that applies
 abbrev pub stops : World → ℕ → Piece → Range → Option Stop
@@ -134,18 +83,19 @@ stops w node p r =
     if not (list_any (λ n. n == node) r.info.desc.nodes) then Some (Turned NotFound)
     else if not (r.info.lease.node == node) then Some (Turned (NotLease r.info.lease))
     else if not (list_all (holds_item r) p.items) then Some (Turned (Mismatch (mismatch_rows w p)))
-    else fails (status_stops (find (λ t. t.txn.0 == txn_of p.head) w.records))
+    else ends (status_stops (find (λ t. t.txn.0 == txn_of p.head) w.records))
 
-abbrev pub served : World → Piece → Range → Made
-served w p r = serve p.head p.items r.cells
+-- its items in order, asked of what the range holds
+abbrev pub served : Piece → Range → Made
+served p r = ask_all p.head p.items r.cells
 
 abbrev pub answer_at : World → Piece → Range → Option Stop → Answer
 answer_at w p r (Some a) = stop_answer a
-answer_at w p r None = answer_made (served w p r)
+answer_at w p r None = answer_made (served p r)
 
 abbrev pub world_at : World → Piece → Range → Option Stop → World
 world_at w p r (Some a) = w
-world_at w p r None = world_made w p.range (served w p r)
+world_at w p r None = world_made w p (served p r)
 
 abbrev pub deliver_answer_to : World → ℕ → Piece → Option Range → Answer
 deliver_answer_to w node p None = Refused NotFound

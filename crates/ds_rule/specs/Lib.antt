@@ -1,8 +1,13 @@
+pub mod Asking
 pub mod Begin
+pub mod Blocks
 pub mod Clauses
-pub mod Covered
+pub mod Close
 pub mod Deliver
+pub mod Gathered
 pub mod Journal
 pub mod Moves
-pub mod Rows
+pub mod Path
+pub mod Pieces
+pub mod Plain
 pub mod World

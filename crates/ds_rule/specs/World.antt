@@ -11,7 +11,7 @@ use Rattle.ds_desc.specs.declared.desc.Info.{Info}
 use Rattle.ds_kind.specs.declared.batch.Piece.{Piece}
 use Rattle.ds_cell.specs.Content.{Content}
 use Rattle.ds_rule.specs.declared.record.TxnRecord.{TxnRecord}
-use Rattle.ds_rule.specs.Rows.{Cell, key_of, content_at}
+use Rattle.ds_cell.specs.Ask.{Cell, key_of, content_at}
 
 -- a range with all that it holds, by key
 pub record Range : Type 0 where

@@ -1,0 +1,55 @@
+-- How replies are made of what the pieces were answered.
+use Rattle.std.specs.Prelude.{◌≡◌, ℕ, Bool, true, false, List, [], ◌∷◌, Option, None, ◌==◌, filter, if◌then◌else◌, refl}
+use Rattle.ds_base.specs.Order.{key_lt}
+use Rattle.ds_base.specs.declared.value.Value.TheVariants.{Int}
+use Rattle.ds_kind.specs.Flags.{flags_of}
+use Rattle.ds_kind.specs.Request.{cut_to, kind_of, span_of}
+use Rattle.ds_kind.specs.declared.batch.Item.{Item}
+use Rattle.ds_kind.specs.declared.reply.Reply.{Reply}
+use Rattle.ds_kind.specs.declared.reply.Body.{Body}
+use Rattle.ds_kind.specs.declared.request.Request.{Request}
+use Rattle.ds_cell.specs.Replies.{body_of, join_bodies}
+use Rattle.ds_rule.specs.Journal.{Accepted}
+
+-- where an accepted item begins
+abbrev pub begins_at : Accepted → List ℕ
+begins_at a = (span_of a.item.request).start
+
+abbrev pub put_by_start : Accepted → List Accepted → List Accepted
+put_by_start a [] = a ∷ []
+put_by_start a (b ∷ bs) = if key_lt (begins_at b) (begins_at a) then b ∷ put_by_start a bs else a ∷ b ∷ bs
+
+-- in key order, whatever the order of arrival
+abbrev pub by_start : List Accepted → List Accepted
+by_start [] = []
+by_start (a ∷ more) = put_by_start a (by_start more)
+
+abbrev pub is_at : ℕ → Accepted → Bool
+is_at n a = a.item.pos == n
+
+-- those of the request at a position
+abbrev pub at_position : ℕ → List Accepted → List Accepted
+at_position n got = filter (is_at n) got
+
+abbrev pub goes_down : Request → Bool
+goes_down r = (flags_of (kind_of r)).reverse
+
+-- one after another these are the request on its span from s to e, and the body is theirs, joined: so each key of
+-- the span stands in exactly one of them
+abbrev pub Joins : Request → List ℕ → List ℕ → List Accepted → Body → Type 0
+Joins r s e [] body = (s ≡ e) × (body ≡ body_of r [])
+Joins r s e (a ∷ more) body =
+    (m : List ℕ) × (rest : Body) × (key_lt s m ≡ true) × (a.item.request ≡ cut_to s m r) × Joins r m e more rest
+    × (body ≡ join_bodies (goes_down r) a.reply.body rest)
+
+-- the reply to one request is made of the accepted items at its position
+pub record IsGathered (got : List Accepted) (i : Item) (reply : Reply) : Type 0 where
+  pub whole : reply.resume ≡ None
+  pub joins : Joins i.request (span_of i.request).start (span_of i.request).end (by_start (at_position i.pos got)) reply.body
+
+-- one reply for each request, in order
+abbrev pub Gathered : List Accepted → List Item → List Reply → Type 0
+Gathered got [] [] = Unit {0}
+Gathered got (i ∷ is) [] = ⊥
+Gathered got [] (r ∷ rs) = ⊥
+Gathered got (i ∷ is) (r ∷ rs) = IsGathered got i r × Gathered got is rs
