@@ -1,6 +1,7 @@
 -- What a wire stands for, and what one call adds to it.
 use Rattle.std.specs.Prelude.{◌≡◌, ℕ, ◌<◌, ◌≤◌, ◌%◌, Bool, true, false, List, [], ◌∷◌, ◌++◌, map, Result, Ok, Err, refl}
 use Rattle.std.specs.declared.alloc.AllocError.{AllocError}
+use Rattle.ds_base.specs.Order.{key_lt, bound}
 use Rattle.ds_base.specs.declared.value.Dir.{Dir}
 use Rattle.ds_desc.specs.Counts.{Rose}
 use Rattle.ds_desc.specs.declared.meta.Looked.{Looked}
@@ -26,9 +27,9 @@ pub record Stands : Type 0 where
   pub lost : ℕ
   pub ahead : List ℕ
 
--- a foreign write lies above the floor
+-- a foreign write is at a key, and lies above the floor
 abbrev pub IsAbove : ℕ → Event → Type 0
-IsAbove floor (Write k s v) = floor < s.0
+IsAbove floor (Write k s v) = (floor < s.0) × (key_lt k bound ≡ true)
 IsAbove floor e = Unit {0}
 
 -- the step's answer is a refusal

@@ -1,5 +1,5 @@
 -- How a transaction begins and ends in the world.
-use Rattle.std.specs.Prelude.{◌≡◌, ℕ, ◌==◌, Bool, true, false, List, [], ◌∷◌, ◌++◌, map, length, Option, Some, None, if◌then◌else◌, refl}
+use Rattle.std.specs.Prelude.{◌≡◌, ℕ, List, [], ◌∷◌, ◌++◌, map, Option, Some, None, refl}
 use Rattle.ds_base.specs.declared.value.Stamp.{Stamp}
 use Rattle.ds_kind.specs.declared.reply.TxnStatus.{TxnStatus}
 use Rattle.ds_kind.specs.declared.reply.TxnStatus.TheVariants as Says
@@ -10,6 +10,7 @@ use Rattle.ds_cell.specs.Store.{Asker}
 use Rattle.ds_rule.specs.declared.record.TxnRecord.{TxnRecord}
 use Rattle.ds_rule.specs.declared.record.RecordStatus.{RecordStatus}
 use Rattle.ds_rule.specs.declared.record.RecordStatus.TheVariants as Status
+use Rattle.ds_rule.specs.Moves.{aborted, with_last}
 use Rattle.ds_rule.specs.World.{World, Range}
 
 abbrev pub new_record : Asker → TxnRecord
@@ -19,23 +20,11 @@ new_record t = record { txn = record { 0 = t.number }; stamp = record { 0 = t.st
 abbrev pub with_begin : Asker → World → World
 with_begin t w = record w { records = w.records ++ new_record t ∷ [] }
 
--- a record that isn't committed becomes aborted
-abbrev pub ended_status : RecordStatus → RecordStatus
-ended_status Status.Pending = Status.Aborted
-ended_status Status.Committed = Status.Committed
-ended_status Status.Aborted = Status.Aborted
-ended_status (Status.Staging fs) = Status.Aborted
-
 abbrev pub said_status : RecordStatus → TxnStatus
 said_status Status.Pending = Says.Aborted
 said_status Status.Committed = Says.Committed
 said_status Status.Aborted = Says.Aborted
 said_status (Status.Staging fs) = Says.Aborted
-
--- the last of them, ended
-abbrev pub end_last : List TxnRecord → List TxnRecord
-end_last [] = []
-end_last (t ∷ ts) = if length ts == 0 then record t { status = ended_status t.status } ∷ ts else t ∷ end_last ts
 
 abbrev pub status_of_last : Option TxnRecord → TxnStatus
 status_of_last None = Says.Aborted
@@ -65,10 +54,10 @@ settle_by (Some t) rs = map (settle_range t.txn.0 (commit_of t.status t.stamp)) 
 -- the open transaction, whose record is the last, ends: a record that isn't committed is aborted, and every intent of
 -- it is settled
 abbrev pub closed : World → World
-closed w = record w { records = end_last w.records; ranges = settle_by (last_of w.records) w.ranges }
+closed w = record w { records = with_last aborted w.records; ranges = settle_by (last_of w.records) w.ranges }
 
-a_pending_record_is_aborted : end_last (record { txn = record { 0 = 1 }; stamp = record { 0 = 5 }; epoch = 0; status = Status.Pending } ∷ []) ≡ record { txn = record { 0 = 1 }; stamp = record { 0 = 5 }; epoch = 0; status = Status.Aborted } ∷ []
+a_pending_record_is_aborted : with_last aborted (record { txn = record { 0 = 1 }; stamp = record { 0 = 5 }; epoch = 0; status = Status.Pending } ∷ []) ≡ record { txn = record { 0 = 1 }; stamp = record { 0 = 5 }; epoch = 0; status = Status.Aborted } ∷ []
 a_pending_record_is_aborted = refl
 
-an_earlier_record_stays : end_last (record { txn = record { 0 = 1 }; stamp = record { 0 = 5 }; epoch = 0; status = Status.Pending } ∷ record { txn = record { 0 = 2 }; stamp = record { 0 = 6 }; epoch = 0; status = Status.Committed } ∷ []) ≡ record { txn = record { 0 = 1 }; stamp = record { 0 = 5 }; epoch = 0; status = Status.Pending } ∷ record { txn = record { 0 = 2 }; stamp = record { 0 = 6 }; epoch = 0; status = Status.Committed } ∷ []
+an_earlier_record_stays : with_last aborted (record { txn = record { 0 = 1 }; stamp = record { 0 = 5 }; epoch = 0; status = Status.Pending } ∷ record { txn = record { 0 = 2 }; stamp = record { 0 = 6 }; epoch = 0; status = Status.Committed } ∷ []) ≡ record { txn = record { 0 = 1 }; stamp = record { 0 = 5 }; epoch = 0; status = Status.Pending } ∷ record { txn = record { 0 = 2 }; stamp = record { 0 = 6 }; epoch = 0; status = Status.Committed } ∷ []
 an_earlier_record_stays = refl

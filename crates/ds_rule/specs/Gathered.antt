@@ -1,7 +1,6 @@
 -- How replies are made of what the pieces were answered.
 use Rattle.std.specs.Prelude.{◌≡◌, ℕ, Bool, true, false, List, [], ◌∷◌, Option, None, ◌==◌, filter, if◌then◌else◌, refl}
 use Rattle.ds_base.specs.Order.{key_lt}
-use Rattle.ds_base.specs.declared.value.Value.TheVariants.{Int}
 use Rattle.ds_kind.specs.Flags.{flags_of}
 use Rattle.ds_kind.specs.Request.{cut_to, kind_of, span_of}
 use Rattle.ds_kind.specs.declared.batch.Item.{Item}
@@ -34,18 +33,18 @@ at_position n got = filter (is_at n) got
 abbrev pub goes_down : Request → Bool
 goes_down r = (flags_of (kind_of r)).reverse
 
--- one after another these are the request on its span from s to e, and the body is theirs, joined: so each key of
--- the span stands in exactly one of them
-abbrev pub Joins : Request → List ℕ → List ℕ → List Accepted → Body → Type 0
-Joins r s e [] body = (s ≡ e) × (body ≡ body_of r [])
-Joins r s e (a ∷ more) body =
-    (m : List ℕ) × (rest : Body) × (key_lt s m ≡ true) × (a.item.request ≡ cut_to s m r) × Joins r m e more rest
-    × (body ≡ join_bodies (goes_down r) a.reply.body rest)
+-- one after another these are the request on its span from s to e, under its number, and the body is theirs, joined:
+-- so each key of the span stands in exactly one of them
+abbrev pub Joins : Item → List ℕ → List ℕ → List Accepted → Body → Type 0
+Joins i s e [] body = (s ≡ e) × (body ≡ body_of i.request [])
+Joins i s e (a ∷ more) body =
+    (m : List ℕ) × (rest : Body) × (key_lt s m ≡ true) × (a.item ≡ record i { request = cut_to s m i.request }) × Joins i m e more rest
+    × (body ≡ join_bodies (goes_down i.request) a.reply.body rest)
 
 -- the reply to one request is made of the accepted items at its position
 pub record IsGathered (got : List Accepted) (i : Item) (reply : Reply) : Type 0 where
   pub whole : reply.resume ≡ None
-  pub joins : Joins i.request (span_of i.request).start (span_of i.request).end (by_start (at_position i.pos got)) reply.body
+  pub joins : Joins i (span_of i.request).start (span_of i.request).end (by_start (at_position i.pos got)) reply.body
 
 -- one reply for each request, in order
 abbrev pub Gathered : List Accepted → List Item → List Reply → Type 0

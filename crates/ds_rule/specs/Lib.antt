@@ -10,4 +10,5 @@ pub mod Moves
 pub mod Path
 pub mod Pieces
 pub mod Plain
+pub mod StandsFor
 pub mod World
