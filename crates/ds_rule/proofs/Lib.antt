@@ -1,2 +1,4 @@
+pub mod Puts
 pub mod Routes
+pub mod Standing
 pub mod Tiling

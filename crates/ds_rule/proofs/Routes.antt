@@ -10,7 +10,7 @@ use Rattle.ds_rule.specs.World.{Range, start_of, end_of, contents, Inside, Fits,
 
 -- what the cells of a range are, against a key
 
-inside-below : (s e m : List ℕ) (cells : List Cell) → key_le e m ≡ true → Inside s e cells → AllBelow key_of m cells
+pub inside-below : (s e m : List ℕ) (cells : List Cell) → key_le e m ≡ true → Inside s e cells → AllBelow key_of m cells
 inside-below s e m [] h all = tt
 inside-below s e m (p ∷ ps) h all = (lt_le_trans p.0 e m (and_second (key_le s p.0) _ all.0) h, inside-below s e m ps h all.1)
 
@@ -23,13 +23,13 @@ from-append m [] ys a b = b
 from-append m (x ∷ xs) ys a b = (a.0, from-append m xs ys a.1 b)
 
 -- all contents of ranges that tile from s on are from m on, where m is not above s
-contents-from : (m s : List ℕ) (rs : List Range) → key_le m s ≡ true → Tiles s rs → AllFrom key_of m (contents rs)
+pub contents-from : (m s : List ℕ) (rs : List Range) → key_le m s ≡ true → Tiles s rs → AllFrom key_of m (contents rs)
 contents-from m s [] h t = tt
 contents-from m s (r ∷ rs) h t =
     from-append m r.cells (contents rs) (inside-from s (end_of r) m r.cells h t.0.inside)
     (contents-from m (end_of r) rs (le_trans m s (end_of r) h (le_of_lt s (end_of r) t.0.some)) t.1)
 
-over-of-from : (k m : List ℕ) (cells : List Cell) → key_lt k m ≡ true → AllFrom key_of m cells → AllOver key_of k cells
+pub over-of-from : (k m : List ℕ) (cells : List Cell) → key_lt k m ≡ true → AllFrom key_of m cells → AllOver key_of k cells
 over-of-from k m [] h all = tt
 over-of-from k m (p ∷ ps) h all = (lt_le_trans k m p.0 h all.0, over-of-from k m ps h all.1)
 
@@ -54,7 +54,7 @@ contents-ascend s (r ∷ rs) t =
 find_more : (p : Range → Bool) (r : Range) (rs : List Range) (q : Range) → p r ≡ false → find p (r ∷ rs) ≡ Some q → find p rs ≡ Some q
 find_more p r rs q miss h = sym (ap (λ t. cond t (Some r) (find p rs)) miss) ∙ h
 
-found-from : (p : Range → Bool) (s : List ℕ) (rs : List Range) (q : Range) → Tiles s rs → find p rs ≡ Some q → key_le s (start_of q) ≡ true
+pub found-from : (p : Range → Bool) (s : List ℕ) (rs : List Range) (q : Range) → Tiles s rs → find p rs ≡ Some q → key_le s (start_of q) ≡ true
 found-from p s [] q t h = cc
 found-from p s (r ∷ rs) q t h =
     elim (p r) as (λ b. p r ≡ b → cond b (Some r) (find p rs) ≡ Some q → key_le s (start_of q) ≡ true) [
@@ -62,7 +62,7 @@ found-from p s (r ∷ rs) q t h =
       | false ↦ λ e g. le_trans s (end_of r) (start_of q) (le_of_lt s (end_of r) t.0.some) (found-from p (end_of r) rs q t.1 g)
     ] refl h
 
-append-nil : {X : Type 0} (xs : List X) → xs ++ [] ≡ xs
+pub append-nil : {X : Type 0} (xs : List X) → xs ++ [] ≡ xs
 append-nil [] = refl
 append-nil (x ∷ xs) = ap (λ zs. x ∷ zs) (append-nil xs)
 

@@ -51,10 +51,10 @@ turned Less h = cc
 turned Equal h = cc
 turned Greater h = refl
 
-below : (k q : List ℕ) → key_cmp k q ≡ Greater → key_lt q k ≡ true
+pub below : (k q : List ℕ) → key_cmp k q ≡ Greater → key_lt q k ≡ true
 below k q h = ap is_lt (nat_list_cmp_total.antisymm q k) ∙ turned (key_cmp k q) h
 
-ascends-insert : (k : List ℕ) (c : Content) (cells : List Cell) → Ascends key_of cells → Ascends key_of (insert_entry key_cmp cells k c)
+pub ascends-insert : (k : List ℕ) (c : Content) (cells : List Cell) → Ascends key_of cells → Ascends key_of (insert_entry key_cmp cells k c)
 ascends-insert k c [] asc = (tt, tt)
 ascends-insert k c (p ∷ ps) asc =
     elim (key_cmp k p.0) as (λ o. key_cmp k p.0 ≡ o → Ascends key_of (match_ordering o ((k, c) ∷ p ∷ ps) ((p.0, c) ∷ ps) (p ∷ insert_entry key_cmp ps k c))) [

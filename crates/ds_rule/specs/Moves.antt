@@ -1,5 +1,5 @@
 -- What an event does to the world.
-use Rattle.std.specs.Prelude.{◌≡◌, ℕ, ◌+◌, ◌==◌, Bool, true, false, List, [], ◌∷◌, length, if◌then◌else◌}
+use Rattle.std.specs.Prelude.{◌≡◌, ℕ, ◌+◌, Bool, true, false, List, [], ◌∷◌, if◌then◌else◌}
 use Rattle.ds_base.specs.Order.{holds}
 use Rattle.ds_cell.specs.Change.{after_foreign}
 use Rattle.ds_cell.specs.Store.{put_cell}
@@ -23,10 +23,14 @@ aborted_status Status.Committed = Status.Committed
 aborted_status Status.Aborted = Status.Aborted
 aborted_status (Status.Staging fs) = Status.Aborted
 
+abbrev pub with_last_after : (TxnRecord → TxnRecord) → TxnRecord → List TxnRecord → List TxnRecord
+with_last_after f t [] = f t ∷ []
+with_last_after f t (u ∷ us) = t ∷ with_last_after f u us
+
 -- the last of them, changed
 abbrev pub with_last : (TxnRecord → TxnRecord) → List TxnRecord → List TxnRecord
 with_last f [] = []
-with_last f (t ∷ ts) = if length ts == 0 then f t ∷ ts else t ∷ with_last f ts
+with_last f (t ∷ ts) = with_last_after f t ts
 
 -- a record that isn't committed becomes aborted
 abbrev pub aborted : TxnRecord → TxnRecord
