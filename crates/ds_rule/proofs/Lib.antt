@@ -1,4 +1,9 @@
+pub mod Course
+pub mod Joining
 pub mod Puts
+pub mod Reading
 pub mod Routes
+pub mod Service
 pub mod Standing
 pub mod Tiling
+pub mod Truth

@@ -1,5 +1,5 @@
 -- Which pieces a batch may be sent in.
-use Rattle.std.specs.Prelude.{◌≡◌, ℕ, ◌<◌, ◌⊎◌, Bool, true, false, ◌&&◌, List, [], ◌∷◌, map, Contains, Option, Some, None, ◌==◌, find, length, refl}
+use Rattle.std.specs.Prelude.{◌≡◌, ℕ, ◌<◌, ◌⊎◌, Bool, true, false, ◌&&◌, List, [], ◌∷◌, map, Option, Some, None, ◌==◌, find, length, refl}
 use Rattle.std.specs.List.{list_any}
 use Rattle.ds_base.specs.Order.{key_lt, key_le}
 use Rattle.ds_base.specs.declared.value.Dir.{Dir}
@@ -19,10 +19,14 @@ abbrev pub Each : {X : Type 0} → (X → Type 0) → List X → Type 0
 Each P [] = Unit {0}
 Each P (x ∷ xs) = P x × Each P xs
 
+abbrev pub IsOneOf : {X : Type 0} → X → List X → Type 0
+IsOneOf x [] = ⊥
+IsOneOf x (y ∷ ys) = (x ≡ y) ⊎ IsOneOf x ys
+
 -- the item is a request of the batch, with its own number, cut to a span inside its own
 pub record IsCut (items : List Item) (i : Item) : Type 0 where
   pub whole : Item
-  pub there : Contains items whole
+  pub there : IsOneOf whole items
   pub position : i.pos ≡ whole.pos
   pub number : i.seq ≡ whole.seq
   pub request : i.request ≡ cut_to (span_of i.request).start (span_of i.request).end whole.request
@@ -60,7 +64,7 @@ dir_for whole items = dir_of_lone (is_lone_end items)
 
 -- a part whose end stands with the others
 abbrev pub IsWholePart : List Item → List Item → Type 0
-IsWholePart whole items = Contains (map (λ p. p.items) (map part_of (groups (item_may_join false) whole))) items
+IsWholePart whole items = IsOneOf items (map (λ p. p.items) (map part_of (groups (item_may_join false) whole)))
 
 abbrev pub position_of : Item → ℕ
 position_of i = i.pos

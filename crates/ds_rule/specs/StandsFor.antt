@@ -12,7 +12,8 @@ use Rattle.ds_rule.specs.declared.record.RecordStatus.{RecordStatus}
 use Rattle.ds_rule.specs.declared.record.RecordStatus.TheVariants as Status
 use Rattle.ds_rule.specs.Asking.{Asking, asking}
 use Rattle.ds_rule.specs.Clauses.{Stands}
-use Rattle.ds_rule.specs.Plain.{asker_in}
+use Rattle.ds_rule.specs.Journal.{Happening, Moved, Did}
+use Rattle.ds_rule.specs.Plain.{asker_in, after_event}
 use Rattle.ds_rule.specs.World.{World, Tiles, cell_of}
 
 -- what the world holds at a key, and what the store holds there: the same writes of the transaction; foreign writes
@@ -64,6 +65,12 @@ pub record StandsFor (w : World) (p : Store) : Type 0 where
   pub same : (k : List ℕ) → IsAt (open_stamp p.txn) (cell_of w k) (content_at k p.cells)
   pub intents : (k : List ℕ) → IsIntentOf p.txn (cell_of w k)
   pub recorded : HasRecordOf p.txn w.records
+
+-- the store after what happened: its moves alone matter
+abbrev pub after_made : List Happening → Store → Store
+after_made [] p = p
+after_made (Moved e ∷ hs) p = after_made hs (after_event e p)
+after_made (Did s ∷ hs) p = after_made hs p
 
 -- a batch beside an open transaction asks at its stamp or below
 abbrev pub IsBefore : Option StoreTxn → ℕ → Type 0
