@@ -1,9 +1,10 @@
 -- The course of a batch that only reads: what it is answered on the way, and where the world stands at its end.
-use Rattle.std.proofs.Common.{◌≡◌, ℕ, ◌<◌, ◌≤◌, Bool, true, false, cond, ◌&&◌, List, [], ◌∷◌, ◌++◌, map, Option, Some, None, inl, inr, refl, sym, ap, ◌∙◌, subst, arith}
+use Rattle.std.proofs.Common.{◌≡◌, ℕ, ◌<◌, ◌≤◌, Bool, true, false, cond, ◌&&◌, ◌==◌, List, [], ◌∷◌, ◌++◌, map, Option, Some, None, inl, inr, refl, sym, ap, ◌∙◌, subst, arith}
 use Rattle.std.specs.List.{find, list_all}
 use Rattle.std.specs.Option.{option_map}
 use Rattle.ds_base.specs.Order.{key_lt, key_le}
 use Rattle.ds_base.specs.Ordered.{key_eq, Ascends}
+use Rattle.ds_base.specs.declared.value.TxnNo.{TxnNo}
 use Rattle.ds_base.proofs.KeyOrder.{and_first, and_second}
 use Rattle.ds_base.proofs.OrderedFacts.{eq_same}
 use Rattle.ds_desc.specs.declared.meta.Looked.TheVariants as Looked
@@ -17,27 +18,28 @@ use Rattle.ds_cell.specs.Content.{Content}
 use Rattle.ds_cell.specs.Ask.{Cells, key_of, content_at}
 use Rattle.ds_cell.specs.Replies.{body_of}
 use Rattle.ds_cell.specs.Seen.{seen, newest, own, value_seen}
-use Rattle.ds_cell.specs.Store.{Store, StoreTxn, WriteAt, with_version, put_cell}
+use Rattle.ds_cell.specs.Store.{Store, StoreTxn, Mode, Live, FailedSince, Unknown, OverWith, Fate, Pending, Committed, Aborted, WriteAt, with_version, put_cell}
 use Rattle.ds_cell.proofs.LaterFacts.{version_at-made}
 use Rattle.ds_rule.specs.declared.answer.Answer.TheVariants.{Done, Failed, Refused, Lost}
 use Rattle.ds_rule.specs.declared.journal.JournalStep.{JournalStep}
 use Rattle.ds_rule.specs.declared.journal.JournalStep.TheVariants.{Look, Send}
 use Rattle.ds_rule.specs.declared.event.Event.{Event}
 use Rattle.ds_rule.specs.declared.event.Event.TheVariants as Event
-use Rattle.ds_rule.specs.Asking.{Asking, Gives, at_of}
+use Rattle.ds_rule.specs.Asking.{Asking, Gives, at_of, txn_of}
 use Rattle.ds_rule.specs.Clauses.{IsAbove}
-use Rattle.ds_rule.specs.Deliver.{has_id, holds_item, deliver_world}
+use Rattle.ds_rule.specs.Deliver.{has_id, holds_item, deliver_world, status_stops}
 use Rattle.ds_rule.specs.Journal.{Happening, Moved, Did, Does, Runs, Accepted, accepted, accepted_by, pairs}
 use Rattle.ds_rule.specs.Moves.{moved}
 use Rattle.ds_rule.specs.Path.{IsHigh, IsOf, IsStepOf}
 use Rattle.ds_rule.specs.Pieces.{Each, PieceOf}
-use Rattle.ds_rule.specs.Plain.{after_event, abort_txn}
-use Rattle.ds_rule.specs.StandsFor.{StandsFor, IsIntentOf, IsAt, open_stamp, IsBefore, after_made}
+use Rattle.ds_rule.specs.Plain.{after_event, abort_txn, aborted_by, is_pending}
+use Rattle.ds_rule.specs.StandsFor.{StandsFor, IsIntentOf, IsAt, IsWho, open_stamp, IsBefore, after_made}
 use Rattle.ds_rule.specs.World.{World, Range, start_of, end_of, contents, cell_of}
 use Rattle.ds_rule.proofs.Puts.{put-at}
 use Rattle.ds_rule.proofs.Reading.{read_bits, same-read, same-places, shown_by, seen-same, seen-settled}
 use Rattle.ds_rule.proofs.Routes.{range-between, contents-ascend}
-use Rattle.ds_rule.proofs.Service.{Service, service, held}
+use Rattle.ds_rule.proofs.Recorded.{Pends, pends}
+use Rattle.ds_rule.proofs.Service.{Service, service, held, takes}
 use Rattle.ds_rule.proofs.Standing.{stands-moved}
 use Rattle.ds_rule.proofs.Truth.{IsRead, IsTrue, reply_of, all-read, cuts-read, reads-stay, looks-stay}
 
@@ -121,6 +123,8 @@ pub record OnWay (h : Head) (floor : ℕ) (w : World) (p first : Store) : Type 0
   pub rising : Ascends key_of first.cells
   pub sees : SeesSame h p first
   pub before : IsBefore p.txn h.at.0
+  pub who : IsWho h.txn p.txn
+  pub back : Pends h.txn p.txn → Pends h.txn first.txn
   pub low : h.at.0 ≤ floor
   pub open_low : open_stamp p.txn ≤ floor
 
@@ -141,6 +145,15 @@ items-true h floor w p first r f (i ∷ is) way found fits read =
 gives-same : (cells out : Cells) (rs qs : List Reply) (ws : List WriteAt) → Gives cells [] rs ≡ Gives out ws qs → rs ≡ qs
 gives-same cells out rs qs ws h = cc
 
+-- an answer is what the first store gives, whose transaction was pending
+pub record IsPlain (h : Head) (first : Store) (a : Accepted) : Type 0 where
+  pub true_ : IsTrue h first.cells a
+  pub pending : Pends h.txn first.txn
+
+each-plain : (h : Head) (first : Store) (xs : List Accepted) → Pends h.txn first.txn → Each (IsTrue h first.cells) xs → Each (IsPlain h first) xs
+each-plain h first [] pending all = tt
+each-plain h first (x ∷ xs) pending all = (record { true_ = all.0; pending = pending }, each-plain h first xs pending all.1)
+
 -- a piece that was served
 piece-true : (q : Asking) (floor : ℕ) (w : World) (p first : Store) (n : ℕ) (piece : Piece) (rs : List Reply) → OnWay q.head floor w p first → Each IsRead q.items → PieceOf q q.head.left piece → Service w n piece rs → Each (IsTrue q.head first.cells) (pairs piece.head piece.items rs)
 piece-true q floor w p first n piece rs way read of sv =
@@ -150,7 +163,63 @@ piece-true q floor w p first n piece rs way read of sv =
     (subst (λ h. Each (IsTrue q.head first.cells) (pairs h piece.items (map (reply_of h sv.range.cells) piece.items))) (sym of.head)
     (items-true q.head floor w p first sv.range (has_id piece.range) piece.items way sv.found (held w n piece sv.range sv.goes) each))
 
+-- it finds its transaction pending
+piece-plain : (q : Asking) (floor : ℕ) (w : World) (p first : Store) (n : ℕ) (piece : Piece) (rs : List Reply) → OnWay q.head floor w p first → Each IsRead q.items → PieceOf q q.head.left piece → Service w n piece rs → Each (IsPlain q.head first) (pairs piece.head piece.items rs)
+piece-plain q floor w p first n piece rs way read of sv =
+    each-plain q.head first (pairs piece.head piece.items rs)
+    (way.back (pends q.head.txn p.txn w.records way.who way.stands.recorded way.stands.numbers (subst (λ h. status_stops (find (λ t. t.txn.0 == txn_of h) w.records) ≡ None) of.head (takes w n piece sv.range sv.goes))))
+    (piece-true q floor w p first n piece rs way read of sv)
+
 -- one happening after the other
+
+abort-who : (n : Option TxnNo) (o : Option StoreTxn) → IsWho n o → IsWho n (option_map abort_txn o)
+abort-who None o h = tt
+abort-who (Some n) None h = h
+abort-who (Some n) (Some t) h = h
+
+abort-pends : (n : Option TxnNo) (o : Option StoreTxn) → Pends n (option_map abort_txn o) → Pends n o
+abort-pends None o h = tt
+abort-pends (Some n) None h = h
+abort-pends (Some n) (Some t) h = was t.fate t.mode h
+  where
+    was : (f : Fate) (m : Mode) → is_pending (aborted_by f m) ≡ true → is_pending f ≡ true
+    was Pending m h = refl
+    was Committed Live h = h
+    was Committed (FailedSince n) h = h
+    was Committed (Unknown ws) h = h
+    was Committed (OverWith s) h = h
+    was Aborted Live h = h
+    was Aborted (FailedSince n) h = h
+    was Aborted (Unknown ws) h = h
+    was Aborted (OverWith s) h = h
+
+who-event : (e : Event) (p : Store) (n : Option TxnNo) → IsWho n p.txn → IsWho n (after_event e p).txn
+who-event (Event.Write k t v) p n h = h
+who-event Event.Abort p n h = abort-who n p.txn h
+who-event (Event.Split k) p n h = h
+who-event (Event.Merge k) p n h = h
+who-event (Event.Lease k m) p n h = h
+who-event (Event.Move k ns) p n h = h
+who-event (Event.Stale k b) p n h = h
+who-event (Event.Arrive c) p n h = h
+who-event (Event.LoseRequest c) p n h = h
+who-event (Event.LoseReply c) p n h = h
+who-event (Event.Copy c) p n h = h
+who-event (Event.Restart u) p n h = h
+
+pends-event : (e : Event) (p : Store) (n : Option TxnNo) → Pends n (after_event e p).txn → Pends n p.txn
+pends-event (Event.Write k t v) p n h = h
+pends-event Event.Abort p n h = abort-pends n p.txn h
+pends-event (Event.Split k) p n h = h
+pends-event (Event.Merge k) p n h = h
+pends-event (Event.Lease k m) p n h = h
+pends-event (Event.Move k ns) p n h = h
+pends-event (Event.Stale k b) p n h = h
+pends-event (Event.Arrive c) p n h = h
+pends-event (Event.LoseRequest c) p n h = h
+pends-event (Event.LoseReply c) p n h = h
+pends-event (Event.Copy c) p n h = h
+pends-event (Event.Restart t) p n h = h
 
 way-moved : (h : Head) (floor : ℕ) (w : World) (p first : Store) (e : Event) → IsAbove floor e → OnWay h floor w p first → OnWay h floor (moved w e) (after_event e p) first
 way-moved h floor w p first e above way = record {
@@ -158,6 +227,8 @@ way-moved h floor w p first e above way = record {
   rising = way.rising;
   sees = λ n k. sees-event h floor e p way.stands.rising above way.low n k ∙ way.sees n k;
   before = before-event e p h.at.0 way.before;
+  who = who-event e p h.txn way.who;
+  back = λ pends. way.back (pends-event e p h.txn pends);
   low = way.low;
   open_low = open-event e p floor way.open_low;
 }
@@ -168,6 +239,8 @@ way-stays h floor w v p first ranges records way = record {
   rising = way.rising;
   sees = way.sees;
   before = way.before;
+  who = way.who;
+  back = way.back;
   low = way.low;
   open_low = way.open_low;
 }
@@ -180,10 +253,10 @@ way-delivered h floor w v p first n piece is read way =
 -- the end of the way: where the world stands, and what was answered
 pub record Arrived (q : Asking) (v : World) (p first : Store) (got : List Accepted) : Type 0 where
   pub stands : StandsFor v p
-  pub answers : Each (IsTrue q.head first.cells) got
+  pub answers : Each (IsPlain q.head first) got
 
-arrived-more : (q : Asking) (v : World) (p first : Store) (xs got : List Accepted) → Each (IsTrue q.head first.cells) xs → Arrived q v p first got → Arrived q v p first (xs ++ got)
-arrived-more q v p first xs got now there = record { stands = there.stands; answers = each-append (IsTrue q.head first.cells) xs got now there.answers }
+arrived-more : (q : Asking) (v : World) (p first : Store) (xs got : List Accepted) → Each (IsPlain q.head first) xs → Arrived q v p first got → Arrived q v p first (xs ++ got)
+arrived-more q v p first xs got now there = record { stands = there.stands; answers = each-append (IsPlain q.head first) xs got now there.answers }
   where
     each-append : {X : Type 0} (P : X → Type 0) (xs ys : List X) → Each P xs → Each P ys → Each P (xs ++ ys)
     each-append P [] ys a b = b
@@ -200,7 +273,7 @@ course q floor (Did (Look k d Looked.Lost) ∷ hs) w v p first read high of r wa
     course q floor hs r.0 v p first read high.1 of.1 r.2 (way-stays q.head floor w r.0 p first (ap (λ z. z.ranges) r.1) (ap (λ z. z.records) r.1) way)
 course q floor (Did (Send n piece (Done rs)) ∷ hs) w v p first read high of r way =
     arrived-more q v (after_made hs p) first (pairs piece.head piece.items rs) (accepted hs)
-    (piece-true q floor w p first n piece rs way read of.0 (service w n piece rs r.1.0))
+    (piece-plain q floor w p first n piece rs way read of.0 (service w n piece rs r.1.0))
     (course q floor hs r.0 v p first read high.1 of.1 r.2 (way-delivered q.head floor w r.0 p first n piece r.1.1 (cuts-read piece.items q.items read of.0.cuts) way))
 course q floor (Did (Send n piece (Failed f)) ∷ hs) w v p first read high of r way =
     course q floor hs r.0 v p first read high.1 of.1 r.2 (way-delivered q.head floor w r.0 p first n piece r.1.1 (cuts-read piece.items q.items read of.0.cuts) way)

@@ -2,6 +2,7 @@ pub mod Course
 pub mod Joining
 pub mod Puts
 pub mod Reading
+pub mod Recorded
 pub mod Routes
 pub mod Service
 pub mod Standing

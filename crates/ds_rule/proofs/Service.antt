@@ -3,6 +3,7 @@ use Rattle.std.proofs.Common.{◌≡◌, ℕ, Bool, true, false, cond, not, ◌&
 use Rattle.std.specs.List.{find, list_all, list_any}
 use Rattle.ds_desc.specs.declared.refusal.Refusal.TheVariants.{NotFound, NotLease, Mismatch}
 use Rattle.ds_kind.specs.declared.batch.Piece.{Piece}
+use Rattle.ds_kind.specs.declared.reply.Failure.{Failure}
 use Rattle.ds_kind.specs.declared.reply.Reply.{Reply}
 use Rattle.ds_cell.specs.Ask.{Cells}
 use Rattle.ds_cell.specs.Store.{WriteAt}
@@ -59,3 +60,18 @@ held w node p r h =
     let b = if_none (not (r.info.lease.node == node)) (Turned (NotLease r.info.lease)) third a.1 in
     let c = if_none (not (list_all (holds_item r) p.items)) (Turned (Mismatch (mismatch_rows w p))) last b.1 in
     not_not (list_all (holds_item r) p.items) c.0
+
+free_of : (o : Option Failure) → ends o ≡ None → o ≡ None
+free_of None h = refl
+free_of (Some f) h = cc
+
+-- and its transaction's record takes pieces
+pub takes : (w : World) (node : ℕ) (p : Piece) (r : Range) → stops w node p r ≡ None → status_stops (find (λ t. t.txn.0 == txn_of p.head) w.records) ≡ None
+takes w node p r h =
+    let status = status_stops (find (λ t. t.txn.0 == txn_of p.head) w.records) in
+    let third = cond (not (list_all (holds_item r) p.items)) (Some (Turned (Mismatch (mismatch_rows w p)))) (ends status) in
+    let second = cond (not (r.info.lease.node == node)) (Some (Turned (NotLease r.info.lease))) third in
+    let a = if_none (not (list_any (λ n. n == node) r.info.desc.nodes)) (Turned NotFound) second h in
+    let b = if_none (not (r.info.lease.node == node)) (Turned (NotLease r.info.lease)) third a.1 in
+    let c = if_none (not (list_all (holds_item r) p.items)) (Turned (Mismatch (mismatch_rows w p))) (ends status) b.1 in
+    free_of status c.1

@@ -5,7 +5,7 @@ use Rattle.ds_base.specs.Order.{key_lt, key_le, bound}
 use Rattle.ds_base.specs.Ordered.{key_eq, Ascends}
 use Rattle.ds_cell.specs.declared.entry.Version.{Version}
 use Rattle.ds_cell.specs.declared.entry.Written.{Written}
-use Rattle.ds_cell.specs.Content.{Content, AllAbove, stamp_of}
+use Rattle.ds_cell.specs.Content.{Content, AllAbove, Rises, stamp_of}
 use Rattle.ds_cell.specs.Seen.{last_of}
 use Rattle.ds_cell.specs.Change.{made, foreign_by, after_foreign}
 use Rattle.ds_cell.specs.Ask.{Cells, key_of, content_at}
@@ -18,7 +18,7 @@ use Rattle.ds_rule.specs.Clauses.{IsAbove}
 use Rattle.ds_rule.specs.Deliver.{replaced}
 use Rattle.ds_rule.specs.Moves.{holds_key, moved, with_last, with_last_after, aborted}
 use Rattle.ds_rule.specs.Plain.{after_event, abort_txn, aborted_by}
-use Rattle.ds_rule.specs.StandsFor.{IsAt, open_stamp, IsIntentOf, HasRecord, HasRecordOf, record_for, StandsFor}
+use Rattle.ds_rule.specs.StandsFor.{IsAt, AllUpTo, open_stamp, IsIntentOf, HasRecord, HasRecordOf, record_for, record_number, StandsFor}
 use Rattle.ds_rule.specs.World.{World, Range, contents, cell_of, Tiles}
 use Rattle.ds_rule.proofs.Puts.{contents-put, put-at}
 use Rattle.ds_rule.proofs.Routes.{contents-ascend}
@@ -36,7 +36,7 @@ last-some : {X : Type 0} (o : Option X) (x : X) → option_or o (Some x) ≡ Non
 last-some None x h = cc
 last-some (Some y) x h = cc
 
-none-last : {X : Type 0} (xs : List X) → last_of xs ≡ None → xs ≡ []
+pub none-last : {X : Type 0} (xs : List X) → last_of xs ≡ None → xs ≡ []
 none-last [] h = refl
 none-last (x ∷ xs) h = absurd (last-some (last_of xs) x (sym (last_where-cons (λ _. true) x xs) ∙ h))
 
@@ -98,6 +98,8 @@ stands-write w p k v key high st =
         (at-put (open_stamp p.txn) v (key_eq k q) (cell_of w k) (cell_of w q) (content_at k p.cells) (content_at q p.cells) high (st.same k) (st.same q)));
       intents = λ q. subst (IsIntentOf p.txn) (sym (world-at all q)) (intent-put p.txn v (key_eq k q) (cell_of w k) (cell_of w q) (st.intents k) (st.intents q));
       recorded = st.recorded;
+      numbers = st.numbers;
+      begun = st.begun;
     }
   where
     world-at : contents (replaced (holds_key k) (λ r. record r { cells = put_cell k (after_foreign v) r.cells }) w.ranges) ≡ put_cell k (after_foreign v) (contents w.ranges) → (q : List ℕ) → content_at q (contents (replaced (holds_key k) (λ r. record r { cells = put_cell k (after_foreign v) r.cells }) w.ranges)) ≡ cond (key_eq k q) (after_foreign v (cell_of w k)) (cell_of w q)
@@ -158,6 +160,28 @@ abort-intent : (o : Option StoreTxn) (c : Content) → IsIntentOf o c → IsInte
 abort-intent None c h = h
 abort-intent (Some t) c h = h
 
+-- an abort changes no number
+
+above-after : (n : ℕ) (t : TxnRecord) (ts : List TxnRecord) → n < record_number t → AllAbove record_number n ts → AllAbove record_number n (with_last_after aborted t ts)
+above-after n t [] h all = (h, tt)
+above-after n t (u ∷ us) h all = (h, above-after n u us all.0 all.1)
+
+rises-after : (t : TxnRecord) (ts : List TxnRecord) → AllAbove record_number (record_number t) ts → Rises record_number ts → Rises record_number (with_last_after aborted t ts)
+rises-after t [] all r = (tt, tt)
+rises-after t (u ∷ us) all r = (above-after (record_number t) u us all.0 all.1, rises-after u us r.0 r.1)
+
+rises-last : (ts : List TxnRecord) → Rises record_number ts → Rises record_number (with_last aborted ts)
+rises-last [] r = tt
+rises-last (t ∷ ts) r = rises-after t ts r.0 r.1
+
+up-to-after : (n : ℕ) (t : TxnRecord) (ts : List TxnRecord) → record_number t ≤ n → AllUpTo record_number n ts → AllUpTo record_number n (with_last_after aborted t ts)
+up-to-after n t [] h all = (h, tt)
+up-to-after n t (u ∷ us) h all = (h, up-to-after n u us all.0 all.1)
+
+up-to-last : (n : ℕ) (ts : List TxnRecord) → AllUpTo record_number n ts → AllUpTo record_number n (with_last aborted ts)
+up-to-last n [] all = tt
+up-to-last n (t ∷ ts) all = up-to-after n t ts all.0 all.1
+
 stands-abort : (w : World) (p : Store) → StandsFor w p → StandsFor (moved w Event.Abort) (after_event Event.Abort p)
 stands-abort w p st = record {
   tiled = st.tiled;
@@ -165,10 +189,12 @@ stands-abort w p st = record {
   same = λ k. subst (λ s. IsAt s (cell_of w k) (content_at k p.cells)) (sym (abort-stamp p.txn)) (st.same k);
   intents = λ k. abort-intent p.txn (cell_of w k) (st.intents k);
   recorded = abort-has p.txn w.records st.recorded;
+  numbers = rises-last w.records st.numbers;
+  begun = up-to-last p.begun w.records st.begun;
 }
 
 stands-counted : (w : World) (p : Store) → StandsFor w p → StandsFor (record w { count = w.count + 1 }) p
-stands-counted w p st = record { tiled = st.tiled; rising = st.rising; same = st.same; intents = st.intents; recorded = st.recorded }
+stands-counted w p st = record { tiled = st.tiled; rising = st.rising; same = st.same; intents = st.intents; recorded = st.recorded; numbers = st.numbers; begun = st.begun }
 
 -- every move of the world is one of the store
 pub stands-moved : (w : World) (p : Store) (e : Event) (floor : ℕ) → IsAbove floor e → open_stamp p.txn ≤ floor → StandsFor w p → StandsFor (moved w e) (after_event e p)

@@ -16,6 +16,7 @@ use Rattle.ds_kind.specs.declared.reply.Reply.{Reply}
 use Rattle.ds_kind.specs.declared.request.Request.{Request}
 use Rattle.ds_kind.specs.declared.request.Request.TheVariants.{Get, Scan, ReverseScan, Put, ConditionalPut, InitPut, Increment, Delete, DeleteRange, EndTxn, QueryIntent, ResolveIntent, ResolveIntentRange, AdminSplit, AdminTransferLease}
 use Rattle.ds_cell.specs.Ask.{Cells, key_of, content_at, Asked, Gave}
+use Rattle.ds_cell.specs.Content.{Rises}
 use Rattle.ds_cell.specs.Replies.{body_of}
 use Rattle.ds_cell.specs.Requests.{ask_request}
 use Rattle.ds_cell.specs.Seen.{seen}
@@ -30,7 +31,7 @@ use Rattle.ds_rule.specs.Journal.{Happening, Moved, Did, Does, Runs, Accepted, a
 use Rattle.ds_rule.specs.Path.{IsHigh, IsOf, IsStepOf}
 use Rattle.ds_rule.specs.Pieces.{Each, IsOneOf, IsCut, PieceOf}
 use Rattle.ds_rule.specs.Plain.{after_event}
-use Rattle.ds_rule.specs.StandsFor.{StandsFor, IsAt, IsIntentOf, HasRecordOf, open_stamp, IsBefore}
+use Rattle.ds_rule.specs.StandsFor.{StandsFor, AllUpTo, record_number, IsAt, IsIntentOf, HasRecordOf, open_stamp, IsBefore}
 use Rattle.ds_rule.specs.World.{World, Range, start_of, end_of, contents, cell_of, Tiles}
 use Rattle.ds_rule.proofs.Reading.{reads-give, read_bits, same-read, same-places, shown_by}
 use Rattle.ds_rule.proofs.Routes.{range-between}
@@ -131,4 +132,6 @@ looks-stay w p v ranges records st = record {
   same = λ q. subst (λ rs. IsAt (open_stamp p.txn) (content_at q (contents rs)) (content_at q p.cells)) (sym ranges) (st.same q);
   intents = λ q. subst (λ rs. IsIntentOf p.txn (content_at q (contents rs))) (sym ranges) (st.intents q);
   recorded = subst (HasRecordOf p.txn) (sym records) st.recorded;
+  numbers = subst (Rises record_number) (sym records) st.numbers;
+  begun = subst (AllUpTo record_number p.begun) (sym records) st.begun;
 }

@@ -1,10 +1,11 @@
 -- When a world stands for a plain store.
 use Rattle.std.specs.Prelude.{◌≡◌, ℕ, ◌≤◌, ◌<◌, ◌⊎◌, List, [], ◌∷◌, fold, Option, Some, None, refl}
 use Rattle.ds_base.specs.Ordered.{Ascends}
+use Rattle.ds_base.specs.declared.value.TxnNo.{TxnNo}
 use Rattle.ds_kind.specs.declared.batch.Batch.{Batch}
 use Rattle.ds_cell.specs.Ask.{key_of, content_at}
 use Rattle.ds_cell.specs.Change.{made}
-use Rattle.ds_cell.specs.Content.{Content, AllAbove, stamp_of}
+use Rattle.ds_cell.specs.Content.{Content, AllAbove, Rises, stamp_of}
 use Rattle.ds_cell.specs.Seen.{last_of}
 use Rattle.ds_cell.specs.Store.{Store, StoreTxn, Mode, Live, FailedSince, Unknown, OverWith, Fate, Pending, Committed, Aborted}
 use Rattle.ds_rule.specs.declared.record.TxnRecord.{TxnRecord}
@@ -26,6 +27,10 @@ pub record IsAt (stamp : ℕ) (c d : Content) : Type 0 where
   pub epoch : d.epoch ≡ c.epoch
   pub waits : c.history ≡ [] → c.waiting ≡ []
   pub above : AllAbove stamp_of stamp c.waiting
+
+abbrev pub AllUpTo : {X : Type 0} → (X → ℕ) → ℕ → List X → Type 0
+AllUpTo f n [] = Unit {0}
+AllUpTo f n (x ∷ xs) = (f x ≤ n) × AllUpTo f n xs
 
 abbrev pub open_stamp : Option StoreTxn → ℕ
 open_stamp None = 0
@@ -49,6 +54,9 @@ record_for t = record {
   status = status_for t.fate;
 }
 
+abbrev pub record_number : TxnRecord → ℕ
+record_number t = t.txn.0
+
 -- the record says what the store knows, unless that is in doubt
 abbrev pub HasRecord : Mode → StoreTxn → List TxnRecord → Type 0
 HasRecord (Unknown ws) t rs = Unit {0}
@@ -59,12 +67,16 @@ abbrev pub HasRecordOf : Option StoreTxn → List TxnRecord → Type 0
 HasRecordOf None rs = Unit {0}
 HasRecordOf (Some t) rs = HasRecord t.mode t rs
 
+-- the world stands for the store: what it holds at each key is what the store holds there, its intents are the open
+-- transaction's, and so is its last record; records have rising numbers, none of them yet to come
 pub record StandsFor (w : World) (p : Store) : Type 0 where
   pub tiled : Tiles [] w.ranges
   pub rising : Ascends key_of p.cells
   pub same : (k : List ℕ) → IsAt (open_stamp p.txn) (cell_of w k) (content_at k p.cells)
   pub intents : (k : List ℕ) → IsIntentOf p.txn (cell_of w k)
   pub recorded : HasRecordOf p.txn w.records
+  pub numbers : Rises record_number w.records
+  pub begun : AllUpTo record_number p.begun w.records
 
 -- the store after what happened: its moves alone matter
 abbrev pub after_made : List Happening → Store → Store
@@ -77,11 +89,25 @@ abbrev pub IsBefore : Option StoreTxn → ℕ → Type 0
 IsBefore None s = Unit {0}
 IsBefore (Some t) s = s ≤ t.asker.stamp
 
+-- what became of the transaction is known
+abbrev pub IsKnown : Mode → Type 0
+IsKnown Live = Unit {0}
+IsKnown (FailedSince n) = Unit {0}
+IsKnown (Unknown ws) = ⊥
+IsKnown (OverWith s) = Unit {0}
+
+-- who asks is no transaction, or the open one, of which it is known what became
+abbrev pub IsWho : Option TxnNo → Option StoreTxn → Type 0
+IsWho None o = Unit {0}
+IsWho (Some n) None = ⊥
+IsWho (Some n) (Some t) = (n.0 ≡ t.asker.number) × IsKnown t.mode
+
 -- the wire is ready for the batch: its world stands for the store, and foreign writes stay above the batch's stamp and
 -- the transaction's
 pub record Ready (a : Stands) (p : Store) (b : Batch) (q : Asking) : Type 0 where
   pub stands : StandsFor a.world p
   pub asks : asking (asker_in p) b ≡ Some q
+  pub who : IsWho q.head.txn p.txn
   pub before : IsBefore p.txn q.head.at.0
   pub floor : q.head.at.0 ≤ a.floor
   pub open_floor : open_stamp p.txn ≤ a.floor
