@@ -33,7 +33,7 @@ use Rattle.ds_rule.specs.Moves.{moved}
 use Rattle.ds_rule.specs.Path.{IsHigh, IsOf, IsStepOf}
 use Rattle.ds_rule.specs.Pieces.{Each, PieceOf}
 use Rattle.ds_rule.specs.Plain.{after_event, abort_txn, aborted_by, is_pending}
-use Rattle.ds_rule.specs.StandsFor.{StandsFor, IsIntentOf, IsAt, IsWho, open_stamp, IsBefore, after_made}
+use Rattle.ds_rule.specs.StandsFor.{StandsFor, IsIntentOf, IsAt, IsWho, Knows, open_stamp, IsBefore, after_made}
 use Rattle.ds_rule.specs.World.{World, Range, start_of, end_of, contents, cell_of}
 use Rattle.ds_rule.proofs.Puts.{put-at}
 use Rattle.ds_rule.proofs.Reading.{read_bits, same-read, same-places, shown_by, seen-same, seen-settled}
@@ -124,6 +124,7 @@ pub record OnWay (h : Head) (floor : ℕ) (w : World) (p first : Store) : Type 0
   pub sees : SeesSame h p first
   pub before : IsBefore p.txn h.at.0
   pub who : IsWho h.txn p.txn
+  pub knows : Knows h.txn first.txn → Knows h.txn p.txn
   pub back : Pends h.txn p.txn → Pends h.txn first.txn
   pub low : h.at.0 ≤ floor
   pub open_low : open_stamp p.txn ≤ floor
@@ -148,9 +149,9 @@ gives-same cells out rs qs ws h = cc
 -- an answer is what the first store gives, whose transaction was pending
 pub record IsPlain (h : Head) (first : Store) (a : Accepted) : Type 0 where
   pub true_ : IsTrue h first.cells a
-  pub pending : Pends h.txn first.txn
+  pub pending : Knows h.txn first.txn → Pends h.txn first.txn
 
-each-plain : (h : Head) (first : Store) (xs : List Accepted) → Pends h.txn first.txn → Each (IsTrue h first.cells) xs → Each (IsPlain h first) xs
+each-plain : (h : Head) (first : Store) (xs : List Accepted) → (Knows h.txn first.txn → Pends h.txn first.txn) → Each (IsTrue h first.cells) xs → Each (IsPlain h first) xs
 each-plain h first [] pending all = tt
 each-plain h first (x ∷ xs) pending all = (record { true_ = all.0; pending = pending }, each-plain h first xs pending all.1)
 
@@ -167,7 +168,7 @@ piece-true q floor w p first n piece rs way read of sv =
 piece-plain : (q : Asking) (floor : ℕ) (w : World) (p first : Store) (n : ℕ) (piece : Piece) (rs : List Reply) → OnWay q.head floor w p first → Each IsRead q.items → PieceOf q q.head.left piece → Service w n piece rs → Each (IsPlain q.head first) (pairs piece.head piece.items rs)
 piece-plain q floor w p first n piece rs way read of sv =
     each-plain q.head first (pairs piece.head piece.items rs)
-    (way.back (pends q.head.txn p.txn w.records way.who way.stands.recorded way.stands.numbers (subst (λ h. status_stops (find (λ t. t.txn.0 == txn_of h) w.records) ≡ None) of.head (takes w n piece sv.range sv.goes))))
+    (λ known. way.back (pends q.head.txn p.txn w.records way.who (way.knows known) way.stands.recorded way.stands.numbers (subst (λ h. status_stops (find (λ t. t.txn.0 == txn_of h) w.records) ≡ None) of.head (takes w n piece sv.range sv.goes))))
     (piece-true q floor w p first n piece rs way read of sv)
 
 -- one happening after the other
@@ -176,6 +177,11 @@ abort-who : (n : Option TxnNo) (o : Option StoreTxn) → IsWho n o → IsWho n (
 abort-who None o h = tt
 abort-who (Some n) None h = h
 abort-who (Some n) (Some t) h = h
+
+abort-knows : (n : Option TxnNo) (o : Option StoreTxn) → Knows n o → Knows n (option_map abort_txn o)
+abort-knows None o h = tt
+abort-knows (Some n) None h = h
+abort-knows (Some n) (Some t) h = h
 
 abort-pends : (n : Option TxnNo) (o : Option StoreTxn) → Pends n (option_map abort_txn o) → Pends n o
 abort-pends None o h = tt
@@ -207,6 +213,20 @@ who-event (Event.LoseReply c) p n h = h
 who-event (Event.Copy c) p n h = h
 who-event (Event.Restart u) p n h = h
 
+knows-event : (e : Event) (p : Store) (n : Option TxnNo) → Knows n p.txn → Knows n (after_event e p).txn
+knows-event (Event.Write k t v) p n h = h
+knows-event Event.Abort p n h = abort-knows n p.txn h
+knows-event (Event.Split k) p n h = h
+knows-event (Event.Merge k) p n h = h
+knows-event (Event.Lease k m) p n h = h
+knows-event (Event.Move k ns) p n h = h
+knows-event (Event.Stale k b) p n h = h
+knows-event (Event.Arrive c) p n h = h
+knows-event (Event.LoseRequest c) p n h = h
+knows-event (Event.LoseReply c) p n h = h
+knows-event (Event.Copy c) p n h = h
+knows-event (Event.Restart u) p n h = h
+
 pends-event : (e : Event) (p : Store) (n : Option TxnNo) → Pends n (after_event e p).txn → Pends n p.txn
 pends-event (Event.Write k t v) p n h = h
 pends-event Event.Abort p n h = abort-pends n p.txn h
@@ -228,6 +248,7 @@ way-moved h floor w p first e above way = record {
   sees = λ n k. sees-event h floor e p way.stands.rising above way.low n k ∙ way.sees n k;
   before = before-event e p h.at.0 way.before;
   who = who-event e p h.txn way.who;
+  knows = λ known. knows-event e p h.txn (way.knows known);
   back = λ pends. way.back (pends-event e p h.txn pends);
   low = way.low;
   open_low = open-event e p floor way.open_low;
@@ -240,6 +261,7 @@ way-stays h floor w v p first ranges records way = record {
   sees = way.sees;
   before = way.before;
   who = way.who;
+  knows = way.knows;
   back = way.back;
   low = way.low;
   open_low = way.open_low;

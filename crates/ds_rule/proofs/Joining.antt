@@ -8,6 +8,8 @@ use Rattle.ds_kind.specs.Asks.{is_get_or_scan}
 use Rattle.ds_kind.specs.Flags.{flags_of}
 use Rattle.ds_kind.specs.Reach.{Reach, Over}
 use Rattle.ds_kind.specs.Request.{cut_to, kind_of, reach_of, span_of}
+use Rattle.ds_base.specs.declared.value.Seq.{Seq}
+use Rattle.ds_kind.specs.declared.reads.GetArgs.{GetArgs}
 use Rattle.ds_kind.specs.declared.batch.Head.{Head}
 use Rattle.ds_kind.specs.declared.batch.Item.{Item}
 use Rattle.ds_kind.specs.declared.reply.Body.{Body}
@@ -94,3 +96,59 @@ joined-span h i cells asc over range s e (a ∷ more) body all j =
     ∙ sym (bodies_join i.request (shown_by look (between key_of s j.0 cells)) (shown_by look (between key_of j.0 e cells)) range)
     ∙ ap (body_of i.request) (sym (shown-append look (between key_of s j.0 cells) (between key_of j.0 e cells)))
     ∙ ap (λ ps. body_of i.request (shown_by look ps)) (sym (cut key_of s j.0 e cells asc (le_of_lt s j.0 j.2) (joins-le i j.0 e more j.1 j.4)))
+
+-- one request
+
+same-reply : (r : Reply) (h : Head) (cells : Cells) (i : Item) → r.resume ≡ None → r.body ≡ body_of i.request (read_bits i.request (at_of h i.seq.0) cells) → r ≡ reply_of h cells i
+same-reply r h cells i resume body = λ j. record { body = body j; resume = resume j }
+
+never-itself : (k : List ℕ) → k ≡ after k → ⊥
+never-itself k h = let low : key_lt k k ≡ true = subst (λ z. key_lt k z ≡ true) (sym h) (below-after k) in let not_low = key_lt-irrefl k in cc
+
+point-body : (pos : ℕ) (seq : Seq) (g : GetArgs) (h : Head) (cells : Cells) (got : List Accepted) (body : Body) → Each (IsTrue h cells) got → Joins (record { pos = pos; seq = seq; request = Get g }) g.key (after g.key) got body → body ≡ body_of (Get g) (read_bits (Get g) (at_of h seq.0) cells)
+point-body pos seq g h cells [] body all j = absurd (never-itself g.key j.0)
+point-body pos seq g h cells (a ∷ more) body all j =
+    j.5
+    ∙ ap (λ b. join_bodies false b j.1) (all.0 ∙ ap (λ z. body_of z.request (read_bits z.request (at_of h z.seq.0) cells)) j.3)
+
+read-body : (pos : ℕ) (seq : Seq) (r : Request) (h : Head) (cells : Cells) (got : List Accepted) (body : Body) → is_get_or_scan r ≡ true → Ascends key_of cells → Each (IsTrue h cells) got → Joins (record { pos = pos; seq = seq; request = r }) (span_of r).start (span_of r).end got body → body ≡ body_of r (read_bits r (at_of h seq.0) cells)
+read-body pos seq (Get g) h cells got body read asc all j = point-body pos seq g h cells got body all j
+read-body pos seq (Scan a) h cells got body read asc all j = joined-span h (record { pos = pos; seq = seq; request = Scan a }) cells asc (λ s e. refl) refl a.start a.end got body all j
+read-body pos seq (ReverseScan a) h cells got body read asc all j = joined-span h (record { pos = pos; seq = seq; request = ReverseScan a }) cells asc (λ s e. refl) refl a.start a.end got body all j
+read-body pos seq (Put a) h cells got body read asc all j = cc
+read-body pos seq (ConditionalPut a) h cells got body read asc all j = cc
+read-body pos seq (InitPut a) h cells got body read asc all j = cc
+read-body pos seq (Increment a) h cells got body read asc all j = cc
+read-body pos seq (Delete a) h cells got body read asc all j = cc
+read-body pos seq (DeleteRange a) h cells got body read asc all j = cc
+read-body pos seq (EndTxn a) h cells got body read asc all j = cc
+read-body pos seq (QueryIntent a) h cells got body read asc all j = cc
+read-body pos seq (ResolveIntent a) h cells got body read asc all j = cc
+read-body pos seq (ResolveIntentRange a) h cells got body read asc all j = cc
+read-body pos seq (AdminSplit a) h cells got body read asc all j = cc
+read-body pos seq (AdminTransferLease a) h cells got body read asc all j = cc
+
+gathered-one : (h : Head) (cells : Cells) (got : List Accepted) (i : Item) (r : Reply) → Ascends key_of cells → IsRead i → Each (IsTrue h cells) got → IsGathered got i r → r ≡ reply_of h cells i
+gathered-one h cells got i r asc read all g =
+    same-reply r h cells i g.whole
+    (read-body i.pos i.seq i.request h cells (by_start (at_position i.pos got)) r.body read asc (each-sorted (IsTrue h cells) _ (each-at (IsTrue h cells) i.pos got all)) g.joins)
+
+gathered-all : (h : Head) (cells : Cells) (got : List Accepted) (items : List Item) (rs : List Reply) → Ascends key_of cells → Each IsRead items → Each (IsTrue h cells) got → Gathered got items rs → rs ≡ map (reply_of h cells) items
+gathered-all h cells got [] [] asc read all g = refl
+gathered-all h cells got [] (r ∷ rs) asc read all g = absurd g
+gathered-all h cells got (i ∷ is) [] asc read all g = absurd g
+gathered-all h cells got (i ∷ is) (r ∷ rs) asc read all g =
+    ap (λ z. z ∷ rs) (gathered-one h cells got i r asc read.0 all g.0) ∙ ap (λ zs. reply_of h cells i ∷ zs) (gathered-all h cells got is rs asc read.1 all g.1)
+
+-- replies that are gathered of true answers are those of the batch asked at once
+pub gathered-asks : (h : Head) (cells : Cells) (got : List Accepted) (items : List Item) (rs : List Reply) → Ascends key_of cells → Each IsRead items → Each (IsTrue h cells) got → Gathered got items rs → ask_all h items cells ≡ Gives cells [] rs
+gathered-asks h cells got items rs asc read all g =
+    all-read h items cells read ∙ ap (Gives cells []) (sym (gathered-all h cells got items rs asc read all g))
+
+-- something was accepted, where a request is gathered
+
+pub joined-some : (i : Item) (got : List Accepted) (body : Body) → IsRead i → key_lt (span_of i.request).start (span_of i.request).end ≡ true → Joins i (span_of i.request).start (span_of i.request).end got body → got ≡ [] → ⊥
+joined-some i got body read some j e =
+    let j' = subst (λ xs. Joins i (span_of i.request).start (span_of i.request).end xs body) e j in
+    let same = subst (λ z. key_lt (span_of i.request).start z ≡ true) (sym j'.0) some in
+    let never = key_lt-irrefl (span_of i.request).start in cc

@@ -1,6 +1,7 @@
 pub mod Course
 pub mod Joining
 pub mod Puts
+pub mod ReadLaw
 pub mod Reading
 pub mod Recorded
 pub mod Routes

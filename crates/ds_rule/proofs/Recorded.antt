@@ -11,7 +11,7 @@ use Rattle.ds_rule.specs.declared.record.TxnRecord.{TxnRecord}
 use Rattle.ds_rule.specs.Asking.{txn_number}
 use Rattle.ds_rule.specs.Deliver.{status_stops}
 use Rattle.ds_rule.specs.Plain.{is_pending}
-use Rattle.ds_rule.specs.StandsFor.{HasRecord, HasRecordOf, IsKnown, IsWho, record_for, record_number}
+use Rattle.ds_rule.specs.StandsFor.{HasRecord, HasRecordOf, IsKnown, IsWho, Knows, record_for, record_number}
 use Rattle.ds_rule.proofs.Standing.{none-last}
 
 unsome : {X : Type 0} (x y : X) → Some x ≡ Some y → x ≡ y
@@ -49,7 +49,7 @@ Pends None o = Unit {0}
 Pends (Some n) None = ⊥
 Pends (Some n) (Some t) = is_pending t.fate ≡ true
 
-known-last : (m : Mode) (t : StoreTxn) (rs : List TxnRecord) → IsKnown m → HasRecord m t rs → last_of rs ≡ Some (record_for t)
+pub known-last : (m : Mode) (t : StoreTxn) (rs : List TxnRecord) → IsKnown m → HasRecord m t rs → last_of rs ≡ Some (record_for t)
 known-last Live t rs k h = h
 known-last (FailedSince n) t rs k h = h
 known-last (Unknown ws) t rs k h = absurd k
@@ -61,9 +61,9 @@ free-fate t Committed e h = let stops = ap (λ f. status_stops (Some (record_for
 free-fate t Aborted e h = let stops = ap (λ f. status_stops (Some (record_for (record t { fate = f })))) e in cc
 
 -- a record that takes pieces is pending
-pub pends : (n : Option TxnNo) (o : Option StoreTxn) (rs : List TxnRecord) → IsWho n o → HasRecordOf o rs → Rises record_number rs → status_stops (find (λ t. t.txn.0 == txn_number n) rs) ≡ None → Pends n o
-pends None o rs who has rise free = tt
-pends (Some n) None rs who has rise free = who
-pends (Some n) (Some t) rs who has rise free =
+pub pends : (n : Option TxnNo) (o : Option StoreTxn) (rs : List TxnRecord) → IsWho n o → Knows n o → HasRecordOf o rs → Rises record_number rs → status_stops (find (λ t. t.txn.0 == txn_number n) rs) ≡ None → Pends n o
+pends None o rs who known has rise free = tt
+pends (Some n) None rs who known has rise free = who
+pends (Some n) (Some t) rs who known has rise free =
     free-fate t t.fate refl
-    (sym (ap status_stops (ap (λ k. find (λ u. u.txn.0 == k) rs) who.0 ∙ find-last rs (record_for t) rise (known-last t.mode t rs who.1 has))) ∙ free)
+    (sym (ap status_stops (ap (λ k. find (λ u. u.txn.0 == k) rs) who ∙ find-last rs (record_for t) rise (known-last t.mode t rs known has))) ∙ free)

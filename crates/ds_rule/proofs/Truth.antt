@@ -62,7 +62,7 @@ pairs-true : (h : Head) (items : List Item) (cells : Cells) → Each (IsTrue h c
 pairs-true h [] cells = tt
 pairs-true h (i ∷ is) cells = (refl, pairs-true h is cells)
 
-finished-nothing : (h : Head) (t : Option TxnNo) (cells : Cells) → committed_by h t [] cells ≡ cells
+pub finished-nothing : (h : Head) (t : Option TxnNo) (cells : Cells) → committed_by h t [] cells ≡ cells
 finished-nothing h None cells = refl
 finished-nothing h (Some t) cells = refl
 

@@ -6,6 +6,7 @@ pub mod Close
 pub mod Deliver
 pub mod Gathered
 pub mod Journal
+pub mod Law
 pub mod Moves
 pub mod Path
 pub mod Pieces

@@ -96,11 +96,17 @@ IsKnown (FailedSince n) = Unit {0}
 IsKnown (Unknown ws) = ⊥
 IsKnown (OverWith s) = Unit {0}
 
--- who asks is no transaction, or the open one, of which it is known what became
+-- who asks is no transaction, or the open one
 abbrev pub IsWho : Option TxnNo → Option StoreTxn → Type 0
 IsWho None o = Unit {0}
 IsWho (Some n) None = ⊥
-IsWho (Some n) (Some t) = (n.0 ≡ t.asker.number) × IsKnown t.mode
+IsWho (Some n) (Some t) = n.0 ≡ t.asker.number
+
+-- and it is known what became of it
+abbrev pub Knows : Option TxnNo → Option StoreTxn → Type 0
+Knows None o = Unit {0}
+Knows (Some n) None = ⊥
+Knows (Some n) (Some t) = IsKnown t.mode
 
 -- the wire is ready for the batch: its world stands for the store, and foreign writes stay above the batch's stamp and
 -- the transaction's
@@ -108,6 +114,7 @@ pub record Ready (a : Stands) (p : Store) (b : Batch) (q : Asking) : Type 0 wher
   pub stands : StandsFor a.world p
   pub asks : asking (asker_in p) b ≡ Some q
   pub who : IsWho q.head.txn p.txn
+  pub knows : Knows q.head.txn p.txn
   pub before : IsBefore p.txn q.head.at.0
   pub floor : q.head.at.0 ≤ a.floor
   pub open_floor : open_stamp p.txn ≤ a.floor
