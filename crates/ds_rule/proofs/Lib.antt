@@ -1,4 +1,5 @@
 pub mod Course
+pub mod Failing
 pub mod Joining
 pub mod Puts
 pub mod ReadLaw

@@ -6,29 +6,35 @@ use Rattle.ds_base.specs.declared.value.TxnNo.{TxnNo}
 use Rattle.ds_kind.specs.declared.batch.Batch.{Batch}
 use Rattle.ds_kind.specs.declared.batch.Head.{Head}
 use Rattle.ds_kind.specs.declared.batch.Item.{Item}
+use Rattle.ds_kind.specs.declared.reply.Failure.{Failure}
+use Rattle.ds_kind.specs.declared.reply.Failure.TheVariants as Failure
 use Rattle.ds_kind.specs.declared.reply.Reply.{Reply}
 use Rattle.ds_kind.specs.declared.request.Request.{Request}
 use Rattle.ds_cell.specs.Ask.{content_at}
 use Rattle.ds_cell.specs.Content.{Content}
 use Rattle.ds_cell.specs.Seen.{last_of}
 use Rattle.ds_cell.specs.Store.{Store, StoreTxn, Asker, WriteAt, Mode, Live, FailedSince, Unknown, OverWith}
+use Rattle.ds_rule.specs.declared.answer.Answer.TheVariants.{Done, Failed, Refused, Lost}
 use Rattle.ds_rule.specs.declared.answer.Outcome.{Outcome}
 use Rattle.ds_rule.specs.declared.answer.Outcome.TheVariants as Outcome
+use Rattle.ds_rule.specs.declared.journal.JournalStep.TheVariants.{Look, Send}
 use Rattle.ds_rule.specs.declared.record.TxnRecord.{TxnRecord}
-use Rattle.ds_rule.specs.Asking.{Asking, Gives, ask_all, asking, asking_by, head_of, numbered, finished}
+use Rattle.ds_rule.specs.Asking.{Asking, Gives, ask_all, asking, asking_by, head_of, numbered, finished, txn_of, txn_number}
 use Rattle.ds_rule.specs.Clauses.{Stands}
 use Rattle.ds_rule.specs.Gathered.{Gathered, IsGathered, by_start, at_position}
-use Rattle.ds_rule.specs.Journal.{Happening, Accepted, accepted}
-use Rattle.ds_rule.specs.Law.{OkGathers, Did, LeadsTo, IsPlainFor, IsProperRead, IsReading, IsGiven, ReadLaw}
-use Rattle.ds_rule.specs.Path.{Path}
+use Rattle.ds_rule.specs.Journal.{Happening, Did as Stepped, Runs, Accepted, accepted}
+use Rattle.ds_rule.specs.Cause.{LastFails}
+use Rattle.ds_rule.specs.Law.{Did, LeadsTo, IsPlainFor, IsProperRead, IsReading, IsGiven, ReadLaw}
+use Rattle.ds_rule.specs.Path.{Path, IsHigh, IsOf}
 use Rattle.ds_rule.specs.Pieces.{Each}
 use Rattle.ds_rule.specs.Plain.{Answered, IsPlainOk, IsInDoubt, uses_numbers, asker_after, counted_txn, if_of_txn, counted_store, failed_mode, failed_txn, failed_store, is_pending, is_rollback, finds_pending, in_doubt, doubtful, count_numbered, asker_in}
 use Rattle.ds_rule.specs.StandsFor.{IsAt, open_stamp, IsIntentOf, HasRecord, HasRecordOf, record_for, status_for, StandsFor, after_made, IsBefore, IsKnown, IsWho, Knows, Ready}
 use Rattle.ds_rule.specs.World.{World, cell_of}
 use Rattle.ds_rule.proofs.Course.{OnWay, IsPlain, Arrived, course}
+use Rattle.ds_rule.proofs.Failing.{reads-fail, nothing-stops, runs-cut, each-left, each-right}
 use Rattle.ds_rule.proofs.Joining.{gathered-asks, joined-some}
 use Rattle.ds_rule.proofs.Recorded.{Pends, known-last}
-use Rattle.ds_rule.proofs.Truth.{IsRead, IsTrue, finished-nothing}
+use Rattle.ds_rule.proofs.Truth.{IsRead, IsTrue, cuts-read, finished-nothing}
 
 -- a transaction whose counts or mode changed is the same in the world
 
@@ -82,6 +88,7 @@ stands-like w p o l st = record {
   intents = λ k. like-intent p.txn o (cell_of w k) l (st.intents k);
   recorded = like-recorded p.txn o w.records l st.recorded;
   numbers = st.numbers;
+  named = st.named;
   begun = st.begun;
 }
 
@@ -219,10 +226,10 @@ led a b p batch q o got t reading path l ready answered = record {
 
 -- an Ok answer
 
-finding : (at : Option Stamp) (t : Option StoreTxn) (b : Batch) (q : Asking) (rs : List Request) → at ≡ None → asking_by at (option_map (λ t. t.asker) t) b ≡ Some q → Pends q.head.txn t → finds_pending at rs t ≡ true
-finding (Some s) t b q rs none is h = cc
-finding None None b q rs none is h = cc
-finding None (Some t) b q rs none is h =
+finding : (at : Option Stamp) (t : Option StoreTxn) (b : Batch) (q : Asking) (rs : List Request) → asking_by at (option_map (λ t. t.asker) t) b ≡ Some q → Pends q.head.txn t → finds_pending at rs t ≡ true
+finding (Some s) t b q rs is h = refl
+finding None None b q rs is h = cc
+finding None (Some t) b q rs is h =
     elim (is_rollback rs) as (λ x. cond x true (is_pending t.fate) ≡ true) [
       | true ↦ refl
       | false ↦ subst (λ n. Pends n (Some t)) (sym (by_txn q is)) h
@@ -259,7 +266,7 @@ led-ok a b p batch q rs got reading path gathers ready =
       next = counted_store batch (Outcome.Ok rs) (record p { cells = finished q.head [] p.cells });
       answered = record {
         unlimited = reading.unlimited;
-        pending = finding batch.at p.txn batch q batch.requests reading.of_txn ready.asks (first-plain q.head p got q.items rs reading.some reading.reads gathers answers ready.knows);
+        pending = finding batch.at p.txn batch q batch.requests ready.asks (first-plain q.head p got q.items rs reading.some reading.reads gathers answers ready.knows);
         asked = q;
         asks = ready.asks;
         cells = p.cells;
@@ -272,34 +279,58 @@ led-ok a b p batch q rs got reading path gathers ready =
 
 -- every other answer
 
-led-counted : (a b : Stands) (p : Store) (batch : Batch) (q : Asking) (o : Outcome) (got : List Accepted) → IsReading batch q → (path : Path q a b got) → Ready a p batch q → Answered p batch o (counted_store batch o p) → LeadsTo a b p batch o
-led-counted a b p batch q o got reading path ready answered =
-    led a b p batch q o got _ reading path (like-counted batch.at batch o p.txn) ready answered
-
 led-failed : (a b : Stands) (p : Store) (batch : Batch) (q : Asking) (o : Outcome) (got : List Accepted) → IsReading batch q → (path : Path q a b got) → Ready a p batch q → Answered p batch o (failed_store batch o p) → LeadsTo a b p batch o
 led-failed a b p batch q o got reading path ready answered =
     let t = if_of_txn batch.at (counted_txn batch o) p.txn in
     led a b p batch q o got (if_of_txn batch.at failed_txn t) reading path (like-then p.txn t _ (like-counted batch.at batch o p.txn) (like-failed batch.at t)) ready answered
 
-led-doubt : (a b : Stands) (p : Store) (batch : Batch) (q : Asking) (lost : ℕ) (got : List Accepted) → IsReading batch q → (path : Path q a b got) → Ready a p batch q → LeadsTo a b p batch (Outcome.Ambiguous lost)
-led-doubt a b p batch q lost got reading path ready =
+led-doubt : (a b : Stands) (p : Store) (batch : Batch) (q : Asking) (lost : ℕ) (got : List Accepted) → IsReading batch q → (path : Path q a b got) → Ready a p batch q → batch.at ≡ None → LeadsTo a b p batch (Outcome.Ambiguous lost)
+led-doubt a b p batch q lost got reading path ready none =
     let o = Outcome.Ambiguous lost in
     let t = if_of_txn batch.at (counted_txn batch o) p.txn in
     let ws = doubtful (asking (asker_in p) batch) p.cells in
-    led a b p batch q o got (option_map (in_doubt ws) t) reading path (like-then p.txn t _ (like-counted batch.at batch o p.txn) (like-doubt ws t)) ready (record { of_txn = reading.of_txn; next = refl })
+    led a b p batch q o got (option_map (in_doubt ws) t) reading path (like-then p.txn t _ (like-counted batch.at batch o p.txn) (like-doubt ws t)) ready (record { of_txn = none; next = refl })
+
+-- without a transaction no piece is answered that its transaction is committed
+
+stamped-head : (s : Stamp) (t : Option Asker) (b : Batch) (q : Asking) → asking_by (Some s) t b ≡ Some q → q.head.txn ≡ None
+stamped-head s t b q h = sym (ap txn_in h)
+  where
+    txn_in : Option Asking → Option TxnNo
+    txn_in None = None
+    txn_in (Some z) = z.head.txn
+
+no-failure : (f : Failure) → None ≡ Some f → ⊥
+no-failure f h = cc
+
+never-committed : (a b : Stands) (p : Store) (batch : Batch) (q : Asking) (got : List Accepted) (f : Failure) → IsReading batch q → (path : Path q a b got) → Ready a p batch q → q.head.txn ≡ None → LastFails f path.added → ⊥
+never-committed a b p batch q got f reading path ready alone last =
+    let step = Stepped (Send last.node last.piece (Failed f)) ∷ [] in
+    let cut = runs-cut a.world b.world last.before step (subst (λ hs. Runs a.world hs b.world) last.last path.runs) in
+    let high = each-left (IsHigh a.floor) last.before step (subst (Each (IsHigh a.floor)) last.last path.high) in
+    let of = subst (Each (IsOf q)) last.last path.of in
+    let here = (each-right (IsOf q) last.before step of).0 in
+    let at = course q a.floor last.before a.world cut.0 p p (each-read q.items reading.reads) high (each-left (IsOf q) last.before step of) cut.1 (way-known a p batch q p.txn (like-itself p.txn) (λ k. k) ready) in
+    let stops = reads-fail cut.0 last.node last.piece f (cuts-read last.piece.items q.items (each-read q.items reading.reads) here.cuts) cut.2.1.0 in
+    no-failure f (sym (nothing-stops cut.0 last.piece at.stands.named (ap txn_of here.head ∙ ap txn_number alone)) ∙ stops)
+
+doubt-by : (at : Option Stamp) (a b : Stands) (p : Store) (batch : Batch) (q : Asking) (lost : ℕ) (got : List Accepted) → batch.at ≡ at → IsReading batch q → (path : Path q a b got) → Ready a p batch q → LastFails Failure.Committed path.added → LeadsTo a b p batch (Outcome.Ambiguous lost)
+doubt-by None a b p batch q lost got is reading path ready last = led-doubt a b p batch q lost got reading path ready is
+doubt-by (Some s) a b p batch q lost got is reading path ready last =
+    absurd (never-committed a b p batch q got Failure.Committed reading path ready (stamped-head s (asker_in p) batch q (subst (λ at. asking_by at (asker_in p) batch ≡ Some q) is ready.asks)) last)
 
 pub read_law : ReadLaw
-read_law batch q a b (Outcome.Ok rs) reading given did p ready = led-ok a b p batch q rs did.got reading did.path did.gathers ready
-read_law batch q a b (Outcome.Illegal i) reading given did p ready = led-counted a b p batch q (Outcome.Illegal i) did.got reading did.path ready refl
-read_law batch q a b (Outcome.MustRollBack n) reading given did p ready = led-counted a b p batch q (Outcome.MustRollBack n) did.got reading did.path ready refl
-read_law batch q a b (Outcome.TxnOver s) reading given did p ready = led-counted a b p batch q (Outcome.TxnOver s) did.got reading did.path ready refl
-read_law batch q a b (Outcome.OpRequiresTxn d) reading given did p ready = led-failed a b p batch q (Outcome.OpRequiresTxn d) did.got reading did.path ready refl
-read_law batch q a b (Outcome.NotOnePhase d) reading given did p ready = led-failed a b p batch q (Outcome.NotOnePhase d) did.got reading did.path ready refl
-read_law batch q a b (Outcome.ConditionFailed i v) reading given did p ready = led-failed a b p batch q (Outcome.ConditionFailed i v) did.got reading did.path ready refl
-read_law batch q a b (Outcome.WriteTooOld i k s) reading given did p ready = led-failed a b p batch q (Outcome.WriteTooOld i k s) did.got reading did.path ready refl
-read_law batch q a b (Outcome.NotInteger i) reading given did p ready = led-failed a b p batch q (Outcome.NotInteger i) did.got reading did.path ready refl
-read_law batch q a b (Outcome.Overflow i) reading given did p ready = led-failed a b p batch q (Outcome.Overflow i) did.got reading did.path ready refl
-read_law batch q a b Outcome.TxnAborted reading given did p ready = led-failed a b p batch q Outcome.TxnAborted did.got reading did.path ready refl
-read_law batch q a b (Outcome.Ambiguous lost) reading given did p ready = led-doubt a b p batch q lost did.got reading did.path ready
-read_law batch q a b (Outcome.RetryExhausted r l) reading given did p ready = led-failed a b p batch q (Outcome.RetryExhausted r l) did.got reading did.path ready refl
-read_law batch q a b Outcome.OutOfMemory reading given did p ready = absurd given
+read_law budget batch q a b (Outcome.Ok rs) reading given did p ready = led-ok a b p batch q rs did.got reading did.path did.cause ready
+read_law budget batch q a b (Outcome.Illegal i) reading given did p ready = absurd did.cause
+read_law budget batch q a b (Outcome.MustRollBack n) reading given did p ready = absurd did.cause
+read_law budget batch q a b (Outcome.TxnOver s) reading given did p ready = absurd did.cause
+read_law budget batch q a b (Outcome.OpRequiresTxn d) reading given did p ready = absurd did.cause
+read_law budget batch q a b (Outcome.NotOnePhase d) reading given did p ready = absurd did.cause
+read_law budget batch q a b (Outcome.ConditionFailed i v) reading given did p ready = led-failed a b p batch q (Outcome.ConditionFailed i v) did.got reading did.path ready refl
+read_law budget batch q a b (Outcome.WriteTooOld i k s) reading given did p ready = led-failed a b p batch q (Outcome.WriteTooOld i k s) did.got reading did.path ready refl
+read_law budget batch q a b (Outcome.NotInteger i) reading given did p ready = led-failed a b p batch q (Outcome.NotInteger i) did.got reading did.path ready refl
+read_law budget batch q a b (Outcome.Overflow i) reading given did p ready = led-failed a b p batch q (Outcome.Overflow i) did.got reading did.path ready refl
+read_law budget batch q a b Outcome.TxnAborted reading given did p ready = led-failed a b p batch q Outcome.TxnAborted did.got reading did.path ready refl
+read_law budget batch q a b (Outcome.RetryExhausted r l) reading given did p ready = led-failed a b p batch q (Outcome.RetryExhausted r l) did.got reading did.path ready refl
+read_law budget batch q a b (Outcome.Ambiguous lost) reading given did p ready = doubt-by batch.at a b p batch q lost did.got refl reading did.path ready did.cause
+read_law budget batch q a b Outcome.OutOfMemory reading given did p ready = absurd given

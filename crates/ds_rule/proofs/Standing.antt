@@ -99,6 +99,7 @@ stands-write w p k v key high st =
       intents = λ q. subst (IsIntentOf p.txn) (sym (world-at all q)) (intent-put p.txn v (key_eq k q) (cell_of w k) (cell_of w q) (st.intents k) (st.intents q));
       recorded = st.recorded;
       numbers = st.numbers;
+      named = st.named;
       begun = st.begun;
     }
   where
@@ -166,6 +167,10 @@ above-after : (n : ℕ) (t : TxnRecord) (ts : List TxnRecord) → n < record_num
 above-after n t [] h all = (h, tt)
 above-after n t (u ∷ us) h all = (h, above-after n u us all.0 all.1)
 
+above-with_last : (n : ℕ) (ts : List TxnRecord) → AllAbove record_number n ts → AllAbove record_number n (with_last aborted ts)
+above-with_last n [] all = tt
+above-with_last n (t ∷ ts) all = above-after n t ts all.0 all.1
+
 rises-after : (t : TxnRecord) (ts : List TxnRecord) → AllAbove record_number (record_number t) ts → Rises record_number ts → Rises record_number (with_last_after aborted t ts)
 rises-after t [] all r = (tt, tt)
 rises-after t (u ∷ us) all r = (above-after (record_number t) u us all.0 all.1, rises-after u us r.0 r.1)
@@ -190,11 +195,12 @@ stands-abort w p st = record {
   intents = λ k. abort-intent p.txn (cell_of w k) (st.intents k);
   recorded = abort-has p.txn w.records st.recorded;
   numbers = rises-last w.records st.numbers;
+  named = above-with_last 0 w.records st.named;
   begun = up-to-last p.begun w.records st.begun;
 }
 
 stands-counted : (w : World) (p : Store) → StandsFor w p → StandsFor (record w { count = w.count + 1 }) p
-stands-counted w p st = record { tiled = st.tiled; rising = st.rising; same = st.same; intents = st.intents; recorded = st.recorded; numbers = st.numbers; begun = st.begun }
+stands-counted w p st = record { tiled = st.tiled; rising = st.rising; same = st.same; intents = st.intents; recorded = st.recorded; numbers = st.numbers; named = st.named; begun = st.begun }
 
 -- every move of the world is one of the store
 pub stands-moved : (w : World) (p : Store) (e : Event) (floor : ℕ) → IsAbove floor e → open_stamp p.txn ≤ floor → StandsFor w p → StandsFor (moved w e) (after_event e p)

@@ -16,7 +16,7 @@ use Rattle.ds_kind.specs.declared.reply.Reply.{Reply}
 use Rattle.ds_kind.specs.declared.request.Request.{Request}
 use Rattle.ds_kind.specs.declared.request.Request.TheVariants.{Get, Scan, ReverseScan, Put, ConditionalPut, InitPut, Increment, Delete, DeleteRange, EndTxn, QueryIntent, ResolveIntent, ResolveIntentRange, AdminSplit, AdminTransferLease}
 use Rattle.ds_cell.specs.Ask.{Cells, key_of, content_at, Asked, Gave}
-use Rattle.ds_cell.specs.Content.{Rises}
+use Rattle.ds_cell.specs.Content.{AllAbove, Rises}
 use Rattle.ds_cell.specs.Replies.{body_of}
 use Rattle.ds_cell.specs.Requests.{ask_request}
 use Rattle.ds_cell.specs.Seen.{seen}
@@ -133,5 +133,6 @@ looks-stay w p v ranges records st = record {
   intents = λ q. subst (λ rs. IsIntentOf p.txn (content_at q (contents rs))) (sym ranges) (st.intents q);
   recorded = subst (HasRecordOf p.txn) (sym records) st.recorded;
   numbers = subst (Rises record_number) (sym records) st.numbers;
+  named = subst (AllAbove record_number 0) (sym records) st.named;
   begun = subst (AllUpTo record_number p.begun) (sym records) st.begun;
 }

@@ -1,6 +1,7 @@
 pub mod Asking
 pub mod Begin
 pub mod Blocks
+pub mod Cause
 pub mod Clauses
 pub mod Close
 pub mod Deliver

@@ -68,7 +68,7 @@ HasRecordOf None rs = Unit {0}
 HasRecordOf (Some t) rs = HasRecord t.mode t rs
 
 -- the world stands for the store: what it holds at each key is what the store holds there, its intents are the open
--- transaction's, and so is its last record; records have rising numbers, none of them yet to come
+-- transaction's, and so is its last record; records have rising numbers from 1 on, none of them yet to come
 pub record StandsFor (w : World) (p : Store) : Type 0 where
   pub tiled : Tiles [] w.ranges
   pub rising : Ascends key_of p.cells
@@ -76,6 +76,7 @@ pub record StandsFor (w : World) (p : Store) : Type 0 where
   pub intents : (k : List ℕ) → IsIntentOf p.txn (cell_of w k)
   pub recorded : HasRecordOf p.txn w.records
   pub numbers : Rises record_number w.records
+  pub named : AllAbove record_number 0 w.records
   pub begun : AllUpTo record_number p.begun w.records
 
 -- the store after what happened: its moves alone matter
