@@ -64,7 +64,7 @@ between-nothing s (p ∷ ps) =
           | false ↦ λ low. refl
         ] refl
 
-joins-le : (i : Item) (s e : List ℕ) (got : List Accepted) (body : Body) → Joins i s e got body → key_le s e ≡ true
+pub joins-le : (i : Item) (s e : List ℕ) (got : List Accepted) (body : Body) → Joins i s e got body → key_le s e ≡ true
 joins-le i s e [] body j = subst (λ k. key_le s k ≡ true) j.0 (le_itself s)
 joins-le i s e (a ∷ more) body j = le_trans s j.0 e (le_of_lt s j.0 j.2) (joins-le i j.0 e more j.1 j.4)
 

@@ -1,5 +1,6 @@
 pub mod Course
 pub mod Failing
+pub mod Gathering
 pub mod Joining
 pub mod Puts
 pub mod ReadLaw
@@ -9,4 +10,5 @@ pub mod Routes
 pub mod Service
 pub mod Standing
 pub mod Tiling
+pub mod Trips
 pub mod Truth

@@ -19,9 +19,10 @@ use Rattle.ds_rule.specs.declared.answer.Outcome.TheVariants as Outcome
 use Rattle.ds_rule.specs.declared.journal.JournalStep.{JournalStep}
 use Rattle.ds_rule.specs.declared.journal.JournalStep.TheVariants.{Look, Send}
 use Rattle.ds_rule.specs.Asking.{Asking}
-use Rattle.ds_rule.specs.Clauses.{IsLost}
+use Rattle.ds_rule.specs.Clauses.{Stands}
 use Rattle.ds_rule.specs.Gathered.{Gathered}
 use Rattle.ds_rule.specs.Journal.{Happening, Moved, Did, Accepted}
+use Rattle.ds_rule.specs.Path.{Path}
 use Rattle.ds_rule.specs.Pieces.{Each}
 
 -- counts
@@ -52,6 +53,13 @@ abbrev pub lost_in : List Happening → ℕ
 lost_in [] = 0
 lost_in (Moved e ∷ hs) = lost_in hs
 lost_in (Did s ∷ hs) = losses_of s + lost_in hs
+
+-- a way from one state of a wire to a later one, of which each send is of the batch, with what was accepted and how many
+-- steps were refused and lost
+pub record Trip (q : Asking) (a b : Stands) (got : List Accepted) (refused lost : ℕ) : Type 0 where
+  pub path : Path q a b got
+  pub refusals : refused_in path.added ≡ refused
+  pub losses : lost_in path.added ≡ lost
 
 -- the last step
 
