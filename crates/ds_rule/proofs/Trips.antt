@@ -96,24 +96,16 @@ step-lost : (ms : List Event) (s : JournalStep) → lost_in (and_step ms s) ≡ 
 step-lost [] s = plus-none (losses_of s)
 step-lost (m ∷ ms) s = step-lost ms s
 
--- where the count of losses stands over the way, so that ways can be joined
-pub record Way (q : Asking) (a b : Stands) (got : List Accepted) (refused lost : ℕ) : Type 0 where
-  pub trip : Trip q a b got refused lost
-  pub rises : a.lost ≤ b.lost
-
-pub way-none : (q : Asking) (a : Stands) → Way q a a [] 0 0
-way-none q a = record {
-  trip = record {
-    path = record { added = []; high = tt; of = tt; losses = tt; grown = sym (append-nil a.past); runs = refl; floor = refl; gives = refl };
-    refusals = refl;
-    losses = refl;
-  };
+pub trip-none : (q : Asking) (a : Stands) → Trip q a a [] 0 0
+trip-none q a = record {
+  path = record { added = []; high = tt; of = tt; losses = tt; grown = sym (append-nil a.past); runs = refl; floor = refl; gives = refl };
+  refusals = refl;
+  losses = refl;
   rises = omega arith;
 }
 
-pub way-step : (q : Asking) (a b : Stands) (s : JournalStep) → IsStepOf q s → Steps a b s → Way q a b (accepted_by s) (refusals_of s) (losses_of s)
-way-step q a b s of st = record {
-  trip = record {
+pub trip-step : (q : Asking) (a b : Stands) (s : JournalStep) → IsStepOf q s → Steps a b s → Trip q a b (accepted_by s) (refusals_of s) (losses_of s)
+trip-step q a b s of st = record {
     path = record {
       added = and_step st.moves s;
       high = step-high a.floor st.moves s st.above;
@@ -126,16 +118,14 @@ way-step q a b s of st = record {
     };
     refusals = step-refused st.moves s;
     losses = step-lost st.moves s;
-  };
-  rises = st.lost;
-}
+    rises = st.lost;
+  }
 
-pub way-then : (q : Asking) (a b c : Stands) (got more : List Accepted) (r1 l1 r2 l2 : ℕ) → Way q a b got r1 l1 → Way q b c more r2 l2 → Way q a c (got ++ more) (r1 + r2) (l1 + l2)
-way-then q a b c got more r1 l1 r2 l2 v w =
-    let x = v.trip.path in
-    let y = w.trip.path in
+pub trip-then : (q : Asking) (a b c : Stands) (got more : List Accepted) (r1 l1 r2 l2 : ℕ) → Trip q a b got r1 l1 → Trip q b c more r2 l2 → Trip q a c (got ++ more) (r1 + r2) (l1 + l2)
+trip-then q a b c got more r1 l1 r2 l2 v w =
+    let x = v.path in
+    let y = w.path in
     record {
-      trip = record {
         path = record {
           added = x.added ++ y.added;
           high = each-append (IsHigh a.floor) x.added y.added x.high (subst (λ f. Each (IsHigh f) y.added) x.floor y.high);
@@ -148,8 +138,7 @@ way-then q a b c got more r1 l1 r2 l2 v w =
           floor = y.floor ∙ x.floor;
           gives = accepted-append x.added y.added ∙ ap (λ xs. xs ++ accepted y.added) x.gives ∙ ap (λ xs. got ++ xs) y.gives;
         };
-        refusals = refused-append x.added y.added ∙ ap (λ n. n + refused_in y.added) v.trip.refusals ∙ ap (λ n. r1 + n) w.trip.refusals;
-        losses = lost-append x.added y.added ∙ ap (λ n. n + lost_in y.added) v.trip.losses ∙ ap (λ n. l1 + n) w.trip.losses;
-      };
+        refusals = refused-append x.added y.added ∙ ap (λ n. n + refused_in y.added) v.refusals ∙ ap (λ n. r1 + n) w.refusals;
+        losses = lost-append x.added y.added ∙ ap (λ n. n + lost_in y.added) v.losses ∙ ap (λ n. l1 + n) w.losses;
       rises = omega (arith, v.rises, w.rises);
     }

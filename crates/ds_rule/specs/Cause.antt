@@ -1,5 +1,5 @@
 -- Why a batch was answered as it was: what its steps show.
-use Rattle.std.specs.Prelude.{◌≡◌, ℕ, ◌+◌, ◌⊎◌, Bool, true, false, ◌&&◌, List, [], ◌∷◌, ◌++◌, refl}
+use Rattle.std.specs.Prelude.{◌≡◌, ℕ, ◌+◌, ◌≤◌, ◌⊎◌, Bool, true, false, ◌&&◌, List, [], ◌∷◌, ◌++◌, refl}
 use Rattle.ds_base.specs.Order.{Extent, key_le, max_key, min_key}
 use Rattle.ds_base.specs.declared.value.Dir.TheVariants.{Forward}
 use Rattle.ds_desc.specs.Contains.{contains}
@@ -60,6 +60,7 @@ pub record Trip (q : Asking) (a b : Stands) (got : List Accepted) (refused lost 
   pub path : Path q a b got
   pub refusals : refused_in path.added ≡ refused
   pub losses : lost_in path.added ≡ lost
+  pub rises : a.lost ≤ b.lost
 
 -- the last step
 

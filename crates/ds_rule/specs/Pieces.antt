@@ -55,12 +55,13 @@ abbrev pub dir_of_first : List Item → List Item → Dir
 dir_of_first whole [] = Forward
 dir_of_first whole (i ∷ is) = dir_of_part (find (has_position i.pos) (parts_apart whole))
 
+abbrev pub unless_lone : Bool → Dir → Dir
+unless_lone true d = Forward
+unless_lone false d = d
+
+-- the direction of a piece of these items
 abbrev pub dir_for : List Item → List Item → Dir
-dir_for whole items = dir_of_lone (is_lone_end items)
-  where
-    dir_of_lone : Bool → Dir
-    dir_of_lone true = Forward
-    dir_of_lone false = dir_of_first whole items
+dir_for whole items = unless_lone (is_lone_end items) (dir_of_first whole items)
 
 -- a part whose end stands with the others
 abbrev pub IsWholePart : List Item → List Item → Type 0

@@ -1,36 +1,39 @@
 -- The batches that are built so far.
-use Rattle.std.specs.Prelude.{◌≡◌, ℕ, Bool, true, false, ◌&&◌, ◌==◌, List, [], ◌∷◌, length, slice_get, Option, Some, None, if◌then◌else◌, is_none, refl}
-use Rattle.ds_base.specs.Order.{key_lt}
+use Rattle.std.specs.Prelude.{◌≡◌, ℕ, Bool, true, false, ◌&&◌, ◌||◌, List, [], ◌∷◌, Option, Some, None, is_none, refl}
+use Rattle.std.specs.List.{list_all}
+use Rattle.ds_base.specs.declared.value.Stamp.{Stamp}
+use Rattle.ds_base.specs.declared.value.Value.TheVariants.{Int}
 use Rattle.ds_kind.specs.declared.batch.Batch.{Batch}
-use Rattle.ds_kind.specs.declared.reads.ScanArgs.{ScanArgs}
 use Rattle.ds_kind.specs.declared.request.Request.{Request}
-use Rattle.ds_kind.specs.declared.request.Request.TheVariants.{Scan, Get}
+use Rattle.ds_kind.specs.declared.request.Request.TheVariants.{Get, Scan, ReverseScan, Put, ConditionalPut, InitPut, Increment, Delete, DeleteRange, EndTxn, QueryIntent, ResolveIntent, ResolveIntentRange, AdminSplit, AdminTransferLease}
 
-abbrev pub as_scan : Option Request → Option ScanArgs
-as_scan (Some (Scan a)) = Some a
-as_scan o = None
+-- a get or a scan that goes forward
+abbrev pub is_plain_read : Request → Bool
+is_plain_read (Get a) = true
+is_plain_read (Scan a) = true
+is_plain_read r = false
 
--- the scan that a list of requests is, if it is exactly one
-abbrev pub one_scan : List Request → Option ScanArgs
-one_scan rs = if length rs == 1 then as_scan (slice_get rs 0) else None
+-- a write of a value
+abbrev pub is_value_write : Request → Bool
+is_value_write (Put a) = true
+is_value_write (ConditionalPut a) = true
+is_value_write (InitPut a) = true
+is_value_write (Increment a) = true
+is_value_write (Delete a) = true
+is_value_write (DeleteRange a) = true
+is_value_write r = false
 
--- a consistent batch of the transaction without a limit
-abbrev pub is_plain : Batch → Bool
-is_plain b = is_none b.at && b.consistent && is_none b.limit
+-- in a transaction gets and scans; with a stamp writes of values too
+abbrev pub is_built_request : Option Stamp → Request → Bool
+is_built_request None r = is_plain_read r
+is_built_request (Some s) r = is_plain_read r || is_value_write r
 
-abbrev pub has_keys : Option ScanArgs → Bool
-has_keys None = false
-has_keys (Some a) = key_lt a.start a.end
-
--- one scan over some keys, in a consistent batch of the transaction without a limit
+-- no limit, and only such requests
 abbrev pub is_built : Batch → Bool
-is_built b = is_plain b && has_keys (one_scan b.requests)
+is_built b = is_none b.limit && list_all (is_built_request b.at) b.requests
 
-a_scan : one_scan (Scan (record { start = 97 ∷ []; end = 98 ∷ [] }) ∷ []) ≡ Some (record { start = 97 ∷ []; end = 98 ∷ [] })
-a_scan = refl
+a_scan_of_the_transaction : is_built (record { at = None; consistent = true; limit = None; requests = Scan (record { start = 97 ∷ []; end = 98 ∷ [] }) ∷ [] }) ≡ true
+a_scan_of_the_transaction = refl
 
-no_get : one_scan (Get (record { key = 97 ∷ [] }) ∷ []) ≡ None
-no_get = refl
-
-not_without_keys : has_keys (Some (record { start = 98 ∷ []; end = 98 ∷ [] })) ≡ false
-not_without_keys = refl
+no_put_of_the_transaction : is_built (record { at = None; consistent = true; limit = None; requests = Delete (record { key = 97 ∷ [] }) ∷ [] }) ≡ false
+no_put_of_the_transaction = refl

@@ -1,2 +1,5 @@
+pub mod Asked
 pub mod Batch
+pub mod Bodies
+pub mod Routed
 pub mod Sent

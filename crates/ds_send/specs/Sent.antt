@@ -1,26 +1,36 @@
 -- What one batch comes to, and what its steps were.
-use Rattle.std.specs.Prelude.{◌≡◌, ◌≢◌, ℕ, ◌+◌, Bool, true, List, [], ◌∷◌, ◌++◌, Option, Some, None}
+use Rattle.std.specs.Prelude.{◌≡◌, ℕ, ◌+◌, ◌<◌, Bool, true, false, ◌&&◌, List, [], ◌∷◌, length, Option, Some, None, is_some, if◌then◌else◌}
+use Rattle.std.specs.List.{list_any, list_all}
 use Rattle.ds_base.specs.Order.{key_lt, key_le, IsKey}
-use Rattle.ds_base.specs.declared.value.Stamp.{Stamp}
-use Rattle.ds_base.specs.declared.value.TxnNo.{TxnNo}
+use Rattle.ds_desc.specs.declared.desc.RangeDesc.{RangeDesc}
+use Rattle.ds_kind.specs.Asks.{is_reverse_scan, has_proper_span}
+use Rattle.ds_kind.specs.Parts.{requests_of}
+use Rattle.ds_kind.specs.Request.{cut_to}
 use Rattle.ds_kind.specs.declared.batch.Batch.{Batch}
-use Rattle.ds_kind.specs.declared.batch.Head.{Head}
-use Rattle.ds_kind.specs.declared.reads.ScanArgs.{ScanArgs}
-use Rattle.ds_kind.specs.declared.reply.Row.{Row}
-use Rattle.ds_kind.specs.declared.reply.Body.TheVariants as Body
+use Rattle.ds_kind.specs.declared.batch.Item.{Item}
+use Rattle.ds_kind.specs.declared.illegal.Illegal.{Illegal}
+use Rattle.ds_kind.specs.declared.reply.Body.{Body}
 use Rattle.ds_kind.specs.declared.reply.Reply.{Reply}
 use Rattle.ds_kind.specs.declared.reply.Failure.{Failure}
 use Rattle.ds_kind.specs.declared.reply.Failure.TheVariants as Failure
+use Rattle.ds_legal.specs.Rules.{first_illegal}
+use Rattle.ds_cell.specs.Content.{Rises}
+use Rattle.ds_cell.specs.Store.{Asker}
 use Rattle.ds_rule.specs.declared.answer.Outcome.{Outcome}
 use Rattle.ds_rule.specs.declared.answer.Outcome.TheVariants as Outcome
+use Rattle.ds_rule.specs.Asking.{Asking, asking}
+use Rattle.ds_rule.specs.Cause.{Trip, LastFails, CauseOf, WholeCauseOf}
 use Rattle.ds_rule.specs.Clauses.{Stands}
-use Rattle.ds_rule.specs.Covered.{Covered}
-use Rattle.ds_send.specs.declared.txn.Txn.{Txn}
-use Rattle.ds_send.specs.declared.scan.Went.{Went}
-use Rattle.ds_send.specs.declared.scan.Went.TheVariants as Went
-use Rattle.ds_send.specs.declared.scan.Scanned.{Scanned}
-use Rattle.ds_send.specs.declared.scan.Scanned.TheVariants as Scanned
-use Rattle.ds_send.specs.Batch.{one_scan}
+use Rattle.ds_rule.specs.Gathered.{Joins}
+use Rattle.ds_rule.specs.Journal.{Accepted}
+use Rattle.ds_rule.specs.Law.{Did, DidWhole, IsGiven, IsPlainFor}
+use Rattle.ds_rule.specs.Path.{Path}
+use Rattle.ds_rule.specs.Pieces.{Each, IsOneOf, position_of}
+use Rattle.ds_send.specs.declared.pieces.Went.{Went}
+use Rattle.ds_send.specs.declared.pieces.Went.TheVariants as Went
+use Rattle.ds_send.specs.declared.requests.Got.{Got}
+use Rattle.ds_send.specs.declared.requests.Got.TheVariants as Got
+use Rattle.ds_send.specs.declared.tries.Tries.{Tries}
 
 abbrev pub outcome_of : Failure → Outcome
 outcome_of (Failure.Condition i v) = Outcome.ConditionFailed i v
@@ -30,61 +40,89 @@ outcome_of (Failure.Overflow i) = Outcome.Overflow i
 outcome_of Failure.Aborted = Outcome.TxnAborted
 outcome_of Failure.Committed = Outcome.Ambiguous 0
 
--- who a transaction's pieces are from
-abbrev pub head_of : Txn → Head
-head_of t = record { at = t.stamp; txn = Some t.number; left = None; epoch = 0 }
+-- a batch that a sender can send request by request: its positions rise, each request has a proper span, and none goes
+-- in reverse
+pub record IsSendable (q : Asking) : Type 0 where
+  pub rising : Rises position_of q.items
+  pub proper : list_all has_proper_span (requests_of q.items) ≡ true
+  pub forward : list_any is_reverse_scan (requests_of q.items) ≡ false
 
--- one piece went on: the part of the scan from m to k is covered by it, and its rows are joined
-pub record On (a b : Stands) (h : Head) (n : ℕ) (m e k : List ℕ) (rows after : List Row) : Type 0 where
+-- one piece was served: the request's part from m to k, with this body
+pub record On (q : Asking) (a b : Stands) (i : Item) (m e k : List ℕ) (body : Body) : Type 0 where
   pub key : IsKey k
   pub on : key_lt m k ≡ true
   pub within : key_le k e ≡ true
-  pub more : List Row
-  pub covers : Covered a b h n m k more
-  pub joined : after ≡ rows ++ more
+  pub served : Accepted
+  pub trip : Trip q a b (served ∷ []) 0 0
+  pub item : served.item ≡ record i { request = cut_to m k i.request }
+  pub body_is : served.reply.body ≡ body
 
--- nothing was accepted
-pub record Again (a b : Stands) (h : Head) (n : ℕ) (m : List ℕ) (rows after : List Row) : Type 0 where
-  pub covers : Covered a b h n m m []
-  pub same : after ≡ rows
+-- a piece failed, and that was the last that happened
+pub record FailedAt (q : Asking) (a b : Stands) (f : Failure) : Type 0 where
+  pub trip : Trip q a b [] 0 0
+  pub last : LastFails f trip.path.added
 
-abbrev pub Goes : Stands → Stands → Head → ℕ → List ℕ → List ℕ → List Row → List Row → Went → Type 0
-Goes a b h n m e rows after (Went.On k) = On a b h n m e k rows after
-Goes a b h n m e rows after Went.Refused = Again a b h n m rows after
-Goes a b h n m e rows after Went.Lost = Again a b h n m rows after
-Goes a b h n m e rows after (Went.Failed f) = Unit {0}
+abbrev pub GoesOn : Asking → Stands → Stands → Item → List ℕ → List ℕ → Went → Type 0
+GoesOn q a b i m e (Went.On k body) = On q a b i m e k body
+GoesOn q a b i m e Went.Refused = Trip q a b [] 1 0
+GoesOn q a b i m e Went.Lost = Trip q a b [] 0 1
+GoesOn q a b i m e (Went.Failed f) = FailedAt q a b f
 
--- a whole scan: its rows are covered; or the budget was used up
-abbrev pub Ends : Stands → Stands → Head → ℕ → List ℕ → List ℕ → ℕ → Scanned → Type 0
-Ends a b h n s e budget (Scanned.Rows rows) = Covered a b h n s e rows
-Ends a b h n s e budget (Scanned.Failed f) = Unit {0}
-Ends a b h n s e budget (Scanned.Exhausted refused lost) = refused + lost ≡ budget
+-- one whole request was answered
+pub record Answered (q : Asking) (a b : Stands) (i : Item) (s e : List ℕ) (refused lost : ℕ) (body : Body) : Type 0 where
+  pub got : List Accepted
+  pub trip : Trip q a b got refused lost
+  pub joins : Joins i s e got body
 
--- an Ok answer has one reply, whose rows are those that the accepted pieces cover
-pub record Replied (a b : Stands) (t : Txn) (scan : ScanArgs) (replies : List Reply) : Type 0 where
-  pub rows : List Row
-  pub is : replies ≡ record { body = Body.Rows rows; resume = None } ∷ []
-  pub covered : Covered a b (head_of t) 0 scan.start scan.end rows
+-- it failed on the way
+pub record FailedOn (q : Asking) (a b : Stands) (f : Failure) : Type 0 where
+  pub got : List Accepted
+  pub path : Path q a b got
+  pub last : LastFails f path.added
 
--- what one scan's batch comes to: its rows, a failure, the budget used up, or want of memory; and nothing else
-abbrev pub Sent : Stands → Stands → Txn → ScanArgs → ℕ → Outcome → Type 0
-Sent a b t scan budget (Outcome.Ok replies) = Replied a b t scan replies
-Sent a b t scan budget (Outcome.RetryExhausted refused lost) = refused + lost ≡ budget
-Sent a b t scan budget (Outcome.ConditionFailed i v) = Unit {0}
-Sent a b t scan budget (Outcome.WriteTooOld i k s) = Unit {0}
-Sent a b t scan budget (Outcome.NotInteger i) = Unit {0}
-Sent a b t scan budget (Outcome.Overflow i) = Unit {0}
-Sent a b t scan budget Outcome.TxnAborted = Unit {0}
-Sent a b t scan budget (Outcome.Ambiguous lost) = Unit {0}
-Sent a b t scan budget Outcome.OutOfMemory = Unit {0}
-Sent a b t scan budget (Outcome.Illegal i) = ⊥
-Sent a b t scan budget (Outcome.MustRollBack since) = ⊥
-Sent a b t scan budget (Outcome.TxnOver status) = ⊥
-Sent a b t scan budget (Outcome.OpRequiresTxn desc) = ⊥
-Sent a b t scan budget (Outcome.NotOnePhase desc) = ⊥
+pub record Stopped (q : Asking) (a b : Stands) (refused lost : ℕ) : Type 0 where
+  pub got : List Accepted
+  pub trip : Trip q a b got refused lost
 
--- the same, where the transaction and the scan are there
-abbrev pub SentBy : Stands → Stands → Option Txn → Option ScanArgs → ℕ → Outcome → Type 0
-SentBy a b (Some t) (Some scan) budget o = Sent a b t scan budget o
-SentBy a b (Some t) None budget o = Unit {0}
-SentBy a b None scan budget o = Unit {0}
+-- how many tries were spent
+pub record Spent (old new : Tries) (refused lost : ℕ) : Type 0 where
+  pub refused_more : new.refused ≡ old.refused + refused
+  pub lost_more : new.lost ≡ old.lost + lost
+  pub left_less : new.left + (refused + lost) ≡ old.left
+
+pub record AnsweredBy (q : Asking) (a b : Stands) (i : Item) (s e : List ℕ) (old new : Tries) (body : Body) : Type 0 where
+  pub refused : ℕ
+  pub lost : ℕ
+  pub spent : Spent old new refused lost
+  pub answered : Answered q a b i s e refused lost body
+
+pub record StoppedBy (q : Asking) (a b : Stands) (old new : Tries) : Type 0 where
+  pub refused : ℕ
+  pub lost : ℕ
+  pub spent : Spent old new refused lost
+  pub stopped : Stopped q a b refused lost
+  pub none_left : new.left ≡ 0
+
+abbrev pub GotBy : Asking → Stands → Stands → Item → List ℕ → List ℕ → Tries → Tries → Got → Type 0
+GotBy q a b i s e old new (Got.Body body) = AnsweredBy q a b i s e old new body
+GotBy q a b i s e old new (Got.Failed f) = FailedOn q a b f
+GotBy q a b i s e old new Got.Exhausted = StoppedBy q a b old new
+
+-- a consistent batch without a transaction is sent in one piece
+abbrev pub is_whole : Batch → Bool
+is_whole b = is_some b.at && b.consistent
+
+abbrev pub SentBy : Bool → ℕ → Asking → Stands → Stands → Outcome → Type 0
+SentBy true budget q a b o = DidWhole budget q a b o
+SentBy false budget q a b o = Did budget q a b o
+
+-- a batch that breaks a rule gets the first such rule, and nothing is done
+abbrev pub Ruled : Option Illegal → Outcome → Stands → Stands → Type 0
+Ruled (Some i) o a b = (o ≡ Outcome.Illegal i) × (b ≡ a)
+Ruled None o a b = Unit {0}
+
+-- any other is sent, and the steps show why it was answered so
+abbrev pub Sent : Option Illegal → ℕ → Batch → Option Asking → Stands → Stands → Outcome → Type 0
+Sent (Some i) budget batch q a b o = Unit {0}
+Sent None budget batch None a b o = Unit {0}
+Sent None budget batch (Some q) a b o = SentBy (is_whole batch) budget q a b o

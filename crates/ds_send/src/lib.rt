@@ -2,11 +2,13 @@
 //! joins what they answer.
 #![tactic(auto)]
 
-pub mod batch;
-pub mod failure;
-pub mod scan;
-pub mod sender;
+mod asked;
+mod bodies;
+mod failure;
+mod pieces;
+mod requests;
+mod route;
+mod tries;
 pub mod txn;
 
-pub use sender::Sender;
 pub use txn::Txn;

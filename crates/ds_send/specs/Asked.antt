@@ -1,0 +1,11 @@
+-- A transaction as its client knows it.
+use Rattle.std.specs.Prelude.{ℕ, Option}
+use Rattle.std.specs.Option.{option_map}
+use Rattle.ds_cell.specs.Store.{Asker}
+use Rattle.ds_send.specs.declared.txn.Txn.{Txn}
+
+abbrev pub asker_of : Txn → Asker
+asker_of t = record { number = t.number.0; stamp = t.stamp.0; epoch = t.epoch; last = t.last.0 }
+
+abbrev pub asker_in : Option Txn → Option Asker
+asker_in t = option_map asker_of t
