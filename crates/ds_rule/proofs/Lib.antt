@@ -1,7 +1,9 @@
+pub mod Alike
 pub mod Course
 pub mod Failing
 pub mod Joining
 pub mod Puts
+pub mod Kept
 pub mod ReadLaw
 pub mod Reading
 pub mod Recorded
