@@ -7,8 +7,10 @@ pub mod Kept
 pub mod ReadLaw
 pub mod Reading
 pub mod Recorded
+pub mod Replacing
 pub mod Routes
 pub mod Service
+pub mod Settling
 pub mod Standing
 pub mod Tiling
 pub mod Truth
