@@ -103,7 +103,7 @@ made-within r h i (Gave bs ws) cells fits all = each ws all
     each [] all = tt
     each (w ∷ ws) all = (in-range r i w.0 fits all.0, each ws all.1)
 
-each-append : {X : Type 0} (P : X → Type 0) (xs ys : List X) → Each P xs → Each P ys → Each P (xs ++ ys)
+pub each-append : {X : Type 0} (P : X → Type 0) (xs ys : List X) → Each P xs → Each P ys → Each P (xs ++ ys)
 each-append P [] ys a b = b
 each-append P (x ∷ xs) ys a b = (a.0, each-append P xs ys a.1 b)
 

@@ -4,6 +4,7 @@ pub mod Failing
 pub mod Joining
 pub mod Puts
 pub mod Kept
+pub mod Quiet
 pub mod ReadLaw
 pub mod Reading
 pub mod Recorded
@@ -14,3 +15,4 @@ pub mod Settling
 pub mod Standing
 pub mod Tiling
 pub mod Truth
+pub mod Writing
