@@ -1,5 +1,5 @@
 -- A batch asked of two contents that are the same where it acts.
-use Rattle.std.proofs.Common.{◌≡◌, ℕ, Bool, true, false, cond, ◌&&◌, List, [], ◌∷◌, ◌++◌, Option, Some, None, refl, sym, ap, ◌∙◌, subst}
+use Rattle.std.proofs.Common.{◌≡◌, ℕ, true, false, cond, ◌&&◌, List, [], ◌∷◌, ◌++◌, Option, None, refl, sym, ap, ◌∙◌, subst}
 use Rattle.std.specs.List.{list_all}
 use Rattle.ds_base.specs.Order.{key_lt, key_le, holds}
 use Rattle.ds_base.specs.Ordered.{key_eq, Ascends}
@@ -15,7 +15,7 @@ use Rattle.ds_cell.specs.declared.entry.At.{At as Who}
 use Rattle.ds_cell.specs.Content.{Content}
 use Rattle.ds_cell.specs.Ask.{Cells, key_of, content_at, Asked, Failed, Gave}
 use Rattle.ds_cell.specs.Change.{wrote, settled}
-use Rattle.ds_cell.specs.Requests.{deed_of, ask_request, SameAnswer}
+use Rattle.ds_cell.specs.Requests.{deed_of, SameAnswer}
 use Rattle.ds_cell.specs.Store.{WriteAt, put_cell, write_all, under_number, settle_all}
 use Rattle.ds_cell.proofs.ByKey.{by_key}
 use Rattle.ds_rule.specs.Asking.{Made, Gives, Fails, failure_of, and_before, and_then, made_by, ask_item, ask_all, at_of}

@@ -1,5 +1,5 @@
 -- What a batch's writes keep, and where they stand.
-use Rattle.std.proofs.Common.{◌≡◌, ℕ, Bool, true, false, cond, ◌&&◌, List, [], ◌∷◌, ◌++◌, Option, Some, None, refl, sym, ap, ◌∙◌, subst}
+use Rattle.std.proofs.Common.{◌≡◌, ℕ, true, false, cond, List, [], ◌∷◌, ◌++◌, Option, refl}
 use Rattle.std.specs.List.{list_all}
 use Rattle.ds_base.specs.Order.{holds}
 use Rattle.ds_base.specs.Ordered.{between}
@@ -10,7 +10,6 @@ use Rattle.ds_kind.specs.Request.{reach_of, span_of}
 use Rattle.ds_kind.specs.declared.batch.Head.{Head}
 use Rattle.ds_kind.specs.declared.batch.Item.{Item}
 use Rattle.ds_kind.specs.declared.reply.Reply.{Reply}
-use Rattle.ds_cell.specs.declared.entry.At.{At as Who}
 use Rattle.ds_cell.specs.declared.verdict.Verdict.{Verdict}
 use Rattle.ds_cell.specs.declared.verdict.Verdict.TheVariants.{Keep, Put, Refuse}
 use Rattle.ds_cell.specs.Content.{Content}

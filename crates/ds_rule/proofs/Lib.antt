@@ -15,4 +15,5 @@ pub mod Settling
 pub mod Standing
 pub mod Tiling
 pub mod Truth
+pub mod WholeLaw
 pub mod Writing

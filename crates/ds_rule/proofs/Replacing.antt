@@ -1,17 +1,17 @@
 -- What the ranges hold after one of them was given new contents.
-use Rattle.std.proofs.Common.{◌≡◌, ℕ, Bool, true, false, cond, ◌&&◌, List, [], ◌∷◌, ◌++◌, Option, Some, None, refl, sym, ap, ◌∙◌, subst}
+use Rattle.std.proofs.Common.{◌≡◌, ℕ, Bool, true, false, cond, List, [], ◌∷◌, ◌++◌, Some, None, refl, sym, ap, ◌∙◌, subst}
 use Rattle.std.specs.List.{find}
 use Rattle.ds_base.specs.Order.{key_lt, key_le, holds}
 use Rattle.ds_base.specs.Ordered.{key_eq, Ascends, at_key, between}
 use Rattle.ds_base.proofs.KeyOrder.{and_first, and_second}
 use Rattle.ds_base.proofs.OrderedFacts.{eq_same, le_trans, at_key-between}
-use Rattle.ds_cell.specs.Ask.{Cell, Cells, key_of, content_of, content_at}
+use Rattle.ds_cell.specs.Ask.{Cells, key_of, content_of, content_at}
 use Rattle.ds_rule.specs.Deliver.{replaced}
 use Rattle.ds_rule.specs.World.{Range, start_of, end_of, contents, Inside, Fits, Tiles}
 use Rattle.ds_rule.proofs.Puts.{content-left, content-right}
 use Rattle.ds_rule.proofs.Routes.{inside-below, contents-from, over-of-from, le_itself, found-from, range-between}
 
-not-both : (t : Bool) → t ≡ true → t ≡ false → ⊥
+pub not-both : (t : Bool) → t ≡ true → t ≡ false → ⊥
 not-both t p q = cc
 
 -- what lies in a span shows nothing outside
@@ -68,13 +68,15 @@ given-tiles p s [] q cells t found asc lies = t
 given-tiles p s (r ∷ rs) q cells t found asc lies =
     elim (p r) as (λ b. cond b (Some r) (find p rs) ≡ Some q → Tiles s (cond b (record r { cells = cells } ∷ rs) (r ∷ given p cells rs))) [
       | true ↦ λ g.
-          let same : q ≡ r = cc in
-          (record {
-            begins = t.0.begins;
-            some = t.0.some;
-            rising = asc;
-            inside = subst (λ z. Inside z (end_of r) cells) t.0.begins (subst (λ z. Inside (start_of z) (end_of z) cells) same lies);
-          }, t.1)
+          let same : q ≡ r = cc in (
+            record {
+              begins = t.0.begins;
+              some = t.0.some;
+              rising = asc;
+              inside = subst (λ z. Inside z (end_of r) cells) t.0.begins (subst (λ z. Inside (start_of z) (end_of z) cells) same lies);
+            },
+            t.1,
+          )
       | false ↦ λ g. (t.0, given-tiles p (end_of r) rs q cells t.1 g asc lies)
     ] found
 

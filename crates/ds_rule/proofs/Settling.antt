@@ -1,10 +1,8 @@
 -- A batch without a transaction leaves no intent: what it wrote is settled with it.
-use Rattle.std.proofs.Common.{◌≡◌, ℕ, ◌⊎◌, Bool, true, false, cond, ◌==◌, List, [], ◌∷◌, ◌++◌, Option, Some, None, inl, inr, refl, sym, ap, ◌∙◌, subst, eq-eqb}
-use Rattle.ds_base.specs.Order.{key_cmp, holds}
+use Rattle.std.proofs.Common.{◌≡◌, ℕ, ◌⊎◌, Bool, true, false, cond, List, [], ◌∷◌, Option, Some, None, inl, inr, refl, sym, ap, ◌∙◌, subst, eq-eqb}
+use Rattle.ds_base.specs.Order.{holds}
 use Rattle.ds_base.specs.Ordered.{key_eq, Ascends}
-use Rattle.std.specs.BTreeMap.{insert_entry}
 use Rattle.ds_base.specs.declared.value.Stamp.{Stamp}
-use Rattle.ds_base.specs.declared.value.Value.{Value}
 use Rattle.ds_base.proofs.OrderedFacts.{eq_same, eq_itself}
 use Rattle.ds_kind.specs.declared.batch.Head.{Head}
 use Rattle.ds_kind.specs.declared.batch.Item.{Item}
@@ -15,11 +13,12 @@ use Rattle.ds_cell.specs.Ask.{Cells, key_of, content_at}
 use Rattle.ds_cell.specs.Change.{wrote, settled, settled_by}
 use Rattle.ds_cell.specs.Seen.{last_of, held}
 use Rattle.ds_cell.specs.Store.{WriteAt, put_cell, settle_all}
-use Rattle.ds_rule.specs.Asking.{Made, Gives, Fails, ask_all, at_of, txn_of}
+use Rattle.ds_rule.specs.Asking.{Made, Gives, ask_all, at_of, txn_of}
 use Rattle.ds_rule.specs.Pieces.{Each}
 use Rattle.ds_rule.specs.World.{Inside}
 use Rattle.ds_rule.proofs.Kept.{IsKept, Keeps, all-keeps}
 use Rattle.ds_rule.proofs.Puts.{put-at}
+use Rattle.ds_rule.proofs.Replacing.{not-both}
 use Rattle.ds_rule.proofs.Standing.{none-last}
 use Rattle.ds_rule.proofs.Tiling.{ascends-insert, inside-insert}
 
@@ -58,8 +57,8 @@ frees-kept : (h : Head) (N : List ℕ → Type 0) → txn_of h ≡ 0 → IsKept 
 frees-kept h N none k n w cells here free = (
   ascends-insert k _ cells free.0,
   λ q.
-    subst (IsFree (N q)) (sym (put-at k q (wrote (at_of h n) w) cells free.0))
-    (free-put (N k) (N q) (key_eq k q) (wrote (at_of h n) w (content_at k cells)) (content_at q cells) (λ e. subst N (eq_same k q e)) here (free.1 k).none_waits none (free.1 q)),
+      subst (IsFree (N q)) (sym (put-at k q (wrote (at_of h n) w) cells free.0))
+      (free-put (N k) (N q) (key_eq k q) (wrote (at_of h n) w (content_at k cells)) (content_at q cells) (λ e. subst N (eq_same k q e)) here (free.1 k).none_waits none (free.1 q)),
 )
 
 -- while it is settled
@@ -82,9 +81,6 @@ settled-clear n commit c free =
 
 clear-free : (n : Type 0) (c : Content) → IsClear c → IsFree n c
 clear-free n c clear = record { none_waits = clear.none_waits; intent = inl clear.none }
-
-not-both : (t : Bool) → t ≡ true → t ≡ false → ⊥
-not-both t p q = cc
 
 free-later : (k q : List ℕ) (ws : List WriteAt) (w : WriteAt) (c : Content) → w.key ≡ k → key_eq k q ≡ false → IsFree (Named q (w ∷ ws)) c → IsFree (Named q ws) c
 free-later k q ws w c is other free = record { none_waits = free.none_waits; intent = later free.intent }

@@ -1,10 +1,9 @@
 -- A batch without a transaction that a range answers, where none is open: the store answers it so, and the world stands
 -- for the store afterwards.
-use Rattle.std.proofs.Common.{◌≡◌, ℕ, Bool, true, false, cond, List, [], ◌∷◌, Option, Some, None, inl, inr, refl, sym, ap, ◌∙◌, subst, fold}
+use Rattle.std.proofs.Common.{◌≡◌, ℕ, Bool, true, false, List, [], Option, Some, None, refl, sym, ap, ◌∙◌, subst, fold}
 use Rattle.std.specs.List.{find, list_all}
 use Rattle.ds_base.specs.Order.{holds}
 use Rattle.ds_base.specs.Ordered.{Ascends}
-use Rattle.ds_base.specs.declared.value.TxnNo.{TxnNo}
 use Rattle.ds_kind.specs.declared.batch.Head.{Head}
 use Rattle.ds_kind.specs.declared.batch.Item.{Item}
 use Rattle.ds_kind.specs.declared.batch.Piece.{Piece}
@@ -14,8 +13,8 @@ use Rattle.ds_cell.specs.Content.{Content, AllAbove, stamp_of}
 use Rattle.ds_cell.specs.Ask.{Cells, key_of, content_at}
 use Rattle.ds_cell.specs.Change.{made}
 use Rattle.ds_cell.specs.Store.{Store, StoreTxn, WriteAt, settle_all}
-use Rattle.ds_rule.specs.Asking.{Asking, Made, Gives, Fails, ask_all, committed_by, finished, txn_of, txn_number}
-use Rattle.ds_rule.specs.Deliver.{replaced, has_id, holds_item, with_cells, world_made, world_at, served, stops, deliver_world, deliver_world_to}
+use Rattle.ds_rule.specs.Asking.{Asking, Made, Gives, Fails, ask_all, committed_by, finished, txn_number}
+use Rattle.ds_rule.specs.Deliver.{replaced, has_id, holds_item, with_cells, world_made, world_at, deliver_world, deliver_world_to}
 use Rattle.ds_rule.specs.Pieces.{Each}
 use Rattle.ds_rule.specs.StandsFor.{StandsFor, IsAt, IsIntentOf, open_stamp}
 use Rattle.ds_rule.specs.World.{World, Range, start_of, end_of, contents, cell_of, Inside}
@@ -122,6 +121,7 @@ given-stands w p id r cells all found none plain st lies both out clear = record
   where
     now : List ℕ → Content
     now k = content_at k (contents (replaced (has_id id) (λ r. record r { cells = cells }) w.ranges))
+
     at : (k : List ℕ) → content_at k (contents (replaced (has_id id) (λ r. record r { cells = cells }) w.ranges)) ≡ content_at k all
     at k =
         elim (holds (start_of r) (end_of r) k) as (λ t. holds (start_of r) (end_of r) k ≡ t → content_at k (contents (replaced (has_id id) (λ r. record r { cells = cells }) w.ranges)) ≡ content_at k all) [
@@ -147,12 +147,12 @@ writes-answer q w v p n piece rs none single head items st sv is =
     let within : Each (λ w. holds (start_of r) (end_of r) w.key ≡ true) sv.writes = subst (Within (start_of r) (end_of r)) here (all-within r q.head q.items r.cells fits) in
     let commit = Some q.head.at in
     let stands = given-stands w p piece.range r (settle_all 0 commit sv.writes sv.cells) (settle_all 0 commit sv.writes like.out) sv.found none plain st
-        (stays-inside (start_of r) (end_of r) q.head q.items r.cells sv.cells sv.writes rs commit (fit.rising, fit.inside) within here)
-        (settle-both (start_of r) (end_of r) 0 commit sv.writes sv.cells like.out like.both)
-        (stays-outside (start_of r) (end_of r) q.head q.items p.cells like.out sv.writes rs commit st.rising within like.gives)
-        (clear-again q.head q.items p.cells like.out sv.writes rs commit (ap txn_number single) st.rising plain.clear like.gives) in
+    (stays-inside (start_of r) (end_of r) q.head q.items r.cells sv.cells sv.writes rs commit (fit.rising, fit.inside) within here)
+    (settle-both (start_of r) (end_of r) 0 commit sv.writes sv.cells like.out like.both)
+    (stays-outside (start_of r) (end_of r) q.head q.items p.cells like.out sv.writes rs commit st.rising within like.gives)
+    (clear-again q.head q.items p.cells like.out sv.writes rs commit (ap txn_number single) st.rising plain.clear like.gives) in
     let world : with_cells piece.range (settle_all 0 commit sv.writes sv.cells) w ≡ v =
-        sym (is ∙ served-world w n piece rs sv ∙ ap (λ h. with_cells piece.range (finished h sv.writes sv.cells) w) head ∙ ap (λ cs. with_cells piece.range cs w) (alone q.head sv.writes sv.cells single)) in
+    sym (is ∙ served-world w n piece rs sv ∙ ap (λ h. with_cells piece.range (finished h sv.writes sv.cells) w) head ∙ ap (λ cs. with_cells piece.range cs w) (alone q.head sv.writes sv.cells single)) in
     record {
       cells = like.out;
       writes = sv.writes;
