@@ -96,13 +96,13 @@ equal_same k q h = eq_same k q (ap is_eq h)
 
 -- what stands at each key after one was changed
 pub insert-at : (k q : List ℕ) (c : Content) (cells : Cells) → Ascends key_of cells → content_at q (insert_entry key_cmp cells k c) ≡ cond (key_eq k q) c (content_at q cells)
-insert-at k q c [] asc = elim (key_eq k q) as (λ t. content_of (cond t (Some (k, c)) None) ≡ cond t c (content_at q [])) [ | true ↦ refl | false ↦ refl ]
+insert-at k q c [] asc = elim (key_eq k q) as (λ t. content_of (cond t (Some (k, c)) None) ≡ cond t c (content_at q [])) [ true ↦ refl | false ↦ refl ]
 insert-at k q c (p ∷ ps) asc =
     elim (key_cmp k p.0) as (λ o. key_cmp k p.0 ≡ o → content_at q (match_ordering o ((k, c) ∷ p ∷ ps) ((p.0, c) ∷ ps) (p ∷ insert_entry key_cmp ps k c)) ≡ cond (key_eq k q) c (content_at q (p ∷ ps))) [
-      | Less ↦ λ h. elim (key_eq k q) as (λ t. content_of (cond t (Some (k, c)) (at_key key_of q (p ∷ ps))) ≡ cond t c (content_at q (p ∷ ps))) [ | true ↦ refl | false ↦ refl ]
+      | Less ↦ λ h. elim (key_eq k q) as (λ t. content_of (cond t (Some (k, c)) (at_key key_of q (p ∷ ps))) ≡ cond t c (content_at q (p ∷ ps))) [ true ↦ refl | false ↦ refl ]
       | Equal ↦ λ h.
           subst (λ z. content_of (cond (key_eq p.0 q) (Some (p.0, c)) (at_key key_of q ps)) ≡ cond (key_eq z q) c (content_of (cond (key_eq p.0 q) (Some p) (at_key key_of q ps)))) (sym (equal_same k p.0 h))
-          (elim (key_eq p.0 q) as (λ t. content_of (cond t (Some (p.0, c)) (at_key key_of q ps)) ≡ cond t c (content_of (cond t (Some p) (at_key key_of q ps)))) [ | true ↦ refl | false ↦ refl ])
+          (elim (key_eq p.0 q) as (λ t. content_of (cond t (Some (p.0, c)) (at_key key_of q ps)) ≡ cond t c (content_of (cond t (Some p) (at_key key_of q ps)))) [ true ↦ refl | false ↦ refl ])
       | Greater ↦ λ h.
           elim (key_eq p.0 q) as (λ t. key_eq p.0 q ≡ t → content_of (cond t (Some p) (at_key key_of q (insert_entry key_cmp ps k c))) ≡ cond (key_eq k q) c (content_of (cond t (Some p) (at_key key_of q ps)))) [
             | true ↦ λ e. ap (λ t. cond t c p.1) (sym (subst (λ z. key_eq k z ≡ false) (eq_same p.0 q e) (gt_not_eq p.0 k (below k p.0 h))))

@@ -93,9 +93,9 @@ stands-write w p k v key high st =
       tiled = tiles-put k (after_foreign v) [] w.ranges st.tiled;
       rising = ascends-insert k _ p.cells st.rising;
       same = λ q.
-        subst (λ c. IsAt (open_stamp p.txn) c (content_at q (put_cell k (with_version v) p.cells))) (sym (world-at all q))
-        (subst (IsAt (open_stamp p.txn) _) (sym (put-at k q (with_version v) p.cells st.rising))
-        (at-put (open_stamp p.txn) v (key_eq k q) (cell_of w k) (cell_of w q) (content_at k p.cells) (content_at q p.cells) high (st.same k) (st.same q)));
+          subst (λ c. IsAt (open_stamp p.txn) c (content_at q (put_cell k (with_version v) p.cells))) (sym (world-at all q))
+          (subst (IsAt (open_stamp p.txn) _) (sym (put-at k q (with_version v) p.cells st.rising))
+          (at-put (open_stamp p.txn) v (key_eq k q) (cell_of w k) (cell_of w q) (content_at k p.cells) (content_at q p.cells) high (st.same k) (st.same q)));
       intents = λ q. subst (IsIntentOf p.txn) (sym (world-at all q)) (intent-put p.txn v (key_eq k q) (cell_of w k) (cell_of w q) (st.intents k) (st.intents q));
       recorded = st.recorded;
       numbers = st.numbers;

@@ -28,7 +28,7 @@ rises-tiles id (r ∷ rs) h = (
   rises-tiles (id + 1) rs (and_second (key_lt r.start (next_start rs)) _ h),
 )
 
-inside-insert : (s e k : List ℕ) (c : Content) (cells : List Cell) → holds s e k ≡ true → Inside s e cells → Inside s e (insert_entry key_cmp cells k c)
+pub inside-insert : (s e k : List ℕ) (c : Content) (cells : List Cell) → holds s e k ≡ true → Inside s e cells → Inside s e (insert_entry key_cmp cells k c)
 inside-insert s e k c [] h all = (h, tt)
 inside-insert s e k c (p ∷ ps) h all =
     elim (key_cmp k p.0) as (λ o. Inside s e (match_ordering o ((k, c) ∷ p ∷ ps) ((p.0, c) ∷ ps) (p ∷ insert_entry key_cmp ps k c))) [
