@@ -12,17 +12,12 @@ use Rattle.ds_kind.specs.declared.reply.Row.{Row}
 use Rattle.ds_kind.specs.declared.request.Request.{Request}
 use Rattle.ds_kind.specs.declared.request.Request.TheVariants.{Get, Scan, ReverseScan, Put, ConditionalPut, InitPut, Increment, Delete, DeleteRange, EndTxn, QueryIntent, ResolveIntent, ResolveIntentRange, AdminSplit, AdminTransferLease}
 use Rattle.ds_cell.specs.Replies.{Bits, body_of, join_bodies, join_rows, join_keys}
-use Rattle.ds_rule.specs.Gathered.{begins_at, put_by_start, by_start, is_at, at_position, goes_down, Joins, IsGathered, Gathered}
+use Rattle.ds_rule.specs.Gathered.{begins_at, put_by_start, by_start, is_at, at_position, goes_down, IsBody, Joins, IsGathered, Gathered}
 use Rattle.ds_cell.proofs.ReplyFacts.{bodies_join}
 use Rattle.ds_rule.specs.Journal.{Accepted}
 use Rattle.ds_rule.specs.Pieces.{Each}
 use Rattle.ds_rule.proofs.Joining.{joins-le}
 use Rattle.ds_rule.proofs.Routes.{append-nil, le_itself}
-
--- a body that a reply to the request may have
-pub record IsBody (r : Request) (b : Body) : Type 0 where
-  pub bits : Bits
-  pub is : b ≡ body_of r bits
 
 -- joining is the same whichever two are joined first
 

@@ -3,14 +3,15 @@ pub mod Course
 pub mod Failing
 pub mod Gathering
 pub mod Joining
-pub mod Puts
 pub mod Kept
+pub mod Puts
 pub mod Quiet
 pub mod ReadLaw
 pub mod Reading
 pub mod Recorded
 pub mod Replacing
 pub mod Routes
+pub mod Served
 pub mod Service
 pub mod Settling
 pub mod Standing

@@ -142,3 +142,17 @@ trip-then q a b c got more r1 l1 r2 l2 v w =
         losses = lost-append x.added y.added ∙ ap (λ n. n + lost_in y.added) v.losses ∙ ap (λ n. l1 + n) w.losses;
       rises = omega (arith, v.rises, w.rises);
     }
+
+-- what a step, and a way after a way, add
+
+pub step-added : (q : Asking) (a b : Stands) (s : JournalStep) (of : IsStepOf q s) (st : Steps a b s) → (trip-step q a b s of st).path.added ≡ map Moved st.moves ++ Did s ∷ []
+unfolding trip-step
+step-added q a b s of st = refl
+
+pub then-added : (q : Asking) (a b c : Stands) (got more : List Accepted) (r1 l1 r2 l2 : ℕ) (v : Trip q a b got r1 l1) (w : Trip q b c more r2 l2) → (trip-then q a b c got more r1 l1 r2 l2 v w).path.added ≡ v.path.added ++ w.path.added
+unfolding trip-then
+then-added q a b c got more r1 l1 r2 l2 v w = refl
+
+pub none-added : (q : Asking) (a : Stands) → (trip-none q a).path.added ≡ []
+unfolding trip-none
+none-added q a = refl

@@ -7,7 +7,7 @@ use Rattle.ds_kind.specs.declared.batch.Item.{Item}
 use Rattle.ds_kind.specs.declared.reply.Reply.{Reply}
 use Rattle.ds_kind.specs.declared.reply.Body.{Body}
 use Rattle.ds_kind.specs.declared.request.Request.{Request}
-use Rattle.ds_cell.specs.Replies.{body_of, join_bodies}
+use Rattle.ds_cell.specs.Replies.{Bits, body_of, join_bodies}
 use Rattle.ds_rule.specs.Journal.{Accepted}
 
 -- where an accepted item begins
@@ -32,6 +32,11 @@ at_position n got = filter (is_at n) got
 
 abbrev pub goes_down : Request → Bool
 goes_down r = (flags_of (kind_of r)).reverse
+
+-- a body that a reply to the request may have
+pub record IsBody (r : Request) (b : Body) : Type 0 where
+  pub bits : Bits
+  pub is : b ≡ body_of r bits
 
 -- one after another these are the request on its span from s to e, under its number, and the body is theirs, joined:
 -- so each key of the span stands in exactly one of them

@@ -9,6 +9,7 @@ use Rattle.ds_base.proofs.OrderedFacts.{le_of_lt, lt_le_trans}
 use Rattle.ds_desc.specs.declared.desc.Info.{Info}
 use Rattle.ds_desc.specs.declared.meta.Looked.TheVariants as Looked
 use Rattle.ds_desc.specs.declared.refusal.Refusal.{Refusal}
+use Rattle.ds_kind.specs.Request.{cut_to}
 use Rattle.ds_kind.specs.declared.batch.Item.{Item}
 use Rattle.ds_kind.specs.declared.batch.Piece.{Piece}
 use Rattle.ds_kind.specs.declared.reply.Failure.{Failure}
@@ -21,7 +22,10 @@ use Rattle.ds_rule.specs.Cause.{Trip, LastFails}
 use Rattle.ds_rule.specs.Clauses.{Stands, Steps, and_step}
 use Rattle.ds_rule.specs.Journal.{Happening, Moved, Did, Accepted, accepted_by, pairs}
 use Rattle.ds_rule.specs.Pieces.{PieceOf}
-use Rattle.ds_rule.proofs.Trips.{trip-none, trip-step, trip-then}
+use Rattle.ds_rule.specs.Gathered.{IsBody}
+use Rattle.ds_rule.proofs.Reading.{body-cut}
+use Rattle.ds_rule.proofs.Served.{First, first-served}
+use Rattle.ds_rule.proofs.Trips.{trip-none, trip-step, trip-then, step-added, then-added}
 use Rattle.ds_send.specs.Sent.{FailedAt}
 
 first_of_list : (rs : List Reply) (r : Reply) → slice_get rs 0 ≡ Some r → (rest : List Reply) × (rs ≡ r ∷ rest)
@@ -78,7 +82,9 @@ sent-failed q a b c k infos n p x f look send is of =
         before = first.path.added ++ map Moved st.moves;
         node = n;
         piece = p;
-        last = sym (append_assoc first.path.added (map Moved st.moves) (Did (Send n p (Failed f)) ∷ []));
+        last = then-added q a b c [] [] 0 0 0 0 first (trip-step q b c (Send n p (Failed f)) of st)
+          ∙ ap (λ hs. first.path.added ++ hs) (step-added q b c (Send n p (Failed f)) of st)
+          ∙ sym (append_assoc first.path.added (map Moved st.moves) (Did (Send n p (Failed f)) ∷ []));
       };
     }
 
@@ -89,3 +95,23 @@ sent-done q a b c k infos n p x i r rs look send is first one of =
     let got : accepted_by (Send n p (Done (r ∷ f.0))) ≡ record { head = p.head; item = i; reply = r } ∷ [] = ap (λ is. pairs p.head is (r ∷ f.0)) one in
     trip-then q a b c [] _ 0 0 0 0 (found-look q a b k infos look)
     (subst (λ xs. Trip q b c xs 0 0) got (trip-step q b c (Send n p (Done (r ∷ f.0))) of st))
+
+-- no piece with an item is served without a reply
+pub some-reply : (b c : Stands) (n : ℕ) (p : Piece) (x : Answer) (i : Item) (rs : List Reply) → Steps b c (Send n p x) → x ≡ Done rs → slice_get rs 0 ≡ None → p.items ≡ i ∷ [] → ⊥
+some-reply b c n p x i rs send is none one =
+    let f = first-served b c n p i [] [] (subst (λ x. Steps b c (Send n p x)) (is ∙ ap Done (none_of rs none)) send) one in
+    let never : [] ≡ f.reply ∷ f.rest = f.is in cc
+
+kind-of-first : (i : Item) (rs : List Reply) (r : Reply) → slice_get rs 0 ≡ Some r → First i rs → IsBody i.request r.body
+kind-of-first i rs r first f =
+    let same : f.reply ≡ r = unsome _ _ (ap (λ rs. slice_get rs 0) (sym f.is) ∙ first) in
+    subst (λ z. IsBody i.request z.body) same f.kind
+  where
+    unsome : (x y : Reply) → Some x ≡ Some y → x ≡ y
+    unsome x y h = cc
+
+-- the first reply's body is one of its request's
+pub reply-kind : (b c : Stands) (n : ℕ) (p : Piece) (x : Answer) (i : Item) (m k : List ℕ) (r : Reply) (rs : List Reply) → Steps b c (Send n p x) → x ≡ Done rs → slice_get rs 0 ≡ Some r → p.items ≡ record i { request = cut_to m k i.request } ∷ [] → IsBody i.request r.body
+reply-kind b c n p x i m k r rs send is first one =
+    let body = kind-of-first (record i { request = cut_to m k i.request }) rs r first (first-served b c n p (record i { request = cut_to m k i.request }) [] rs (subst (λ x. Steps b c (Send n p x)) is send) one) in
+    record { bits = body.bits; is = body.is ∙ body-cut m k i.request body.bits }

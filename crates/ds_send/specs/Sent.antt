@@ -21,7 +21,7 @@ use Rattle.ds_rule.specs.declared.answer.Outcome.TheVariants as Outcome
 use Rattle.ds_rule.specs.Asking.{Asking, asking}
 use Rattle.ds_rule.specs.Cause.{Trip, LastFails, CauseOf, WholeCauseOf}
 use Rattle.ds_rule.specs.Clauses.{Stands}
-use Rattle.ds_rule.specs.Gathered.{Joins}
+use Rattle.ds_rule.specs.Gathered.{IsBody, Joins}
 use Rattle.ds_rule.specs.Journal.{Accepted}
 use Rattle.ds_rule.specs.Law.{Did, DidWhole, IsGiven, IsPlainFor}
 use Rattle.ds_rule.specs.Path.{Path}
@@ -56,6 +56,7 @@ pub record On (q : Asking) (a b : Stands) (i : Item) (m e k : List ℕ) (body : 
   pub trip : Trip q a b (served ∷ []) 0 0
   pub item : served.item ≡ record i { request = cut_to m k i.request }
   pub body_is : served.reply.body ≡ body
+  pub kind : IsBody i.request body
 
 -- a piece failed, and that was the last that happened
 pub record FailedAt (q : Asking) (a b : Stands) (f : Failure) : Type 0 where
