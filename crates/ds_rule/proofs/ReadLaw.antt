@@ -114,7 +114,7 @@ asker-same : {X : Type 0} (f : Asker → X) (t u : Asker) (b : Bool) → f u ≡
 asker-same f t u true h = h
 asker-same f t u false h = refl
 
-like-counted : (at : Option Stamp) (b : Batch) (o : Outcome) (t : Option StoreTxn) → Like t (if_of_txn at (counted_txn b o) t)
+pub like-counted : (at : Option Stamp) (b : Batch) (o : Outcome) (t : Option StoreTxn) → Like t (if_of_txn at (counted_txn b o) t)
 like-counted (Some s) b o t = like-itself t
 like-counted None b o None = tt
 like-counted None b o (Some t) = record {

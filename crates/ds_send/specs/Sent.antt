@@ -1,7 +1,8 @@
 -- What one batch comes to, and what its steps were.
-use Rattle.std.specs.Prelude.{◌≡◌, ℕ, ◌+◌, ◌<◌, Bool, true, false, ◌&&◌, List, [], ◌∷◌, length, Option, Some, None, is_some, if◌then◌else◌}
+use Rattle.std.specs.Prelude.{◌≡◌, ℕ, ◌+◌, ◌≤◌, Bool, true, false, ◌&&◌, List, [], ◌∷◌, ◌++◌, Option, Some, None, is_some}
 use Rattle.std.specs.List.{list_any, list_all}
 use Rattle.ds_base.specs.Order.{key_lt, key_le, IsKey}
+use Rattle.ds_base.specs.declared.value.Stamp.{Stamp}
 use Rattle.ds_desc.specs.declared.desc.RangeDesc.{RangeDesc}
 use Rattle.ds_kind.specs.Asks.{is_reverse_scan, has_proper_span}
 use Rattle.ds_kind.specs.Parts.{requests_of}
@@ -15,17 +16,18 @@ use Rattle.ds_kind.specs.declared.reply.Failure.{Failure}
 use Rattle.ds_kind.specs.declared.reply.Failure.TheVariants as Failure
 use Rattle.ds_legal.specs.Rules.{first_illegal}
 use Rattle.ds_cell.specs.Content.{Rises}
-use Rattle.ds_cell.specs.Store.{Asker}
+use Rattle.ds_cell.specs.Store.{Asker, Store}
 use Rattle.ds_rule.specs.declared.answer.Outcome.{Outcome}
 use Rattle.ds_rule.specs.declared.answer.Outcome.TheVariants as Outcome
 use Rattle.ds_rule.specs.Asking.{Asking, asking}
 use Rattle.ds_rule.specs.Cause.{Trip, LastFails, CauseOf, WholeCauseOf}
 use Rattle.ds_rule.specs.Clauses.{Stands}
 use Rattle.ds_rule.specs.Gathered.{IsBody, Joins}
-use Rattle.ds_rule.specs.Journal.{Accepted}
-use Rattle.ds_rule.specs.Law.{Did, DidWhole, IsGiven, IsPlainFor}
+use Rattle.ds_rule.specs.Journal.{Happening, Accepted}
+use Rattle.ds_rule.specs.Law.{Did, DidWhole, IsGiven, IsPlainFor, IsQuiet, LeadsTo, MayAct, PlainCause}
 use Rattle.ds_rule.specs.Path.{Path}
-use Rattle.ds_rule.specs.Pieces.{Each, IsOneOf, position_of}
+use Rattle.ds_rule.specs.Pieces.{Each, position_of}
+use Rattle.ds_rule.specs.StandsFor.{StandsFor, Ready}
 use Rattle.ds_send.specs.declared.pieces.Went.{Went}
 use Rattle.ds_send.specs.declared.pieces.Went.TheVariants as Went
 use Rattle.ds_send.specs.declared.requests.Got.{Got}
@@ -129,3 +131,26 @@ abbrev pub Sent : Option Illegal → ℕ → Batch → Option Asking → Stands 
 Sent (Some i) budget batch q a b o = Unit {0}
 Sent None budget batch None a b o = Unit {0}
 Sent None budget batch (Some q) a b o = SentBy (is_whole batch) budget q a b o
+
+-- what the answer means
+
+-- the call met nothing but its own steps
+abbrev pub WasQuiet : Stands → Stands → Type 0
+WasQuiet a b = (added : List Happening) → b.past ≡ a.past ++ added → Each IsQuiet added
+
+-- a batch that is sent request by request has the plain answer; one that is sent in one piece has it where the call met
+-- nothing but its own steps, and its failure is the plain store's
+abbrev pub PlainIf : Bool → Stands → Stands → Batch → Asking → Outcome → Type 0
+PlainIf false a b batch q o = IsPlainFor a b batch q o
+PlainIf true a b batch q o = (p : Store) → Ready a p batch q → MayAct p q → WasQuiet a b → LeadsTo a b p batch o × PlainCause p q o
+
+abbrev pub Plain : Option Illegal → Batch → Option Asking → Stands → Stands → Outcome → Type 0
+Plain (Some i) batch q a b o = (p : Store) → StandsFor a.world p → LeadsTo a b p batch o
+Plain None batch None a b o = Unit {0}
+Plain None batch (Some q) a b o = PlainIf (is_whole batch) a b batch q o
+
+-- a batch of the transaction has one
+abbrev pub IsOpenFor : Option Stamp → Option Asker → Type 0
+IsOpenFor (Some s) t = Unit {0}
+IsOpenFor None None = ⊥
+IsOpenFor None (Some t) = t.last ≤ 4000000000

@@ -3,12 +3,16 @@
 #![tactic(auto)]
 
 mod asked;
+pub mod batch;
 mod bodies;
 mod failure;
 mod pieces;
 mod requests;
 mod route;
+pub mod sender;
 mod tries;
 pub mod txn;
+mod whole;
 
+pub use sender::Sender;
 pub use txn::Txn;
