@@ -2,10 +2,13 @@ pub mod Events
 pub mod Examples
 pub mod Forms
 pub mod Happenings
+pub mod Journals
 pub mod Limits
 pub mod Lines
+pub mod PlainRuns
 pub mod Requests
 pub mod Rules
+pub mod Runs
 pub mod Script
 pub mod ScriptGives
 pub mod Split
