@@ -5,7 +5,7 @@ use Rattle.ds_cell.specs.Seen.{under}
 use Rattle.ds_cell.specs.Change.{with_write}
 use Rattle.ds_cell.specs.Content.{Rises, seq_of}
 use Rattle.ds_cell.proofs.RisingFacts.{rises_write}
-use Rattle.ds_cell.proofs.cell.Cell.write.Goals as goal
+use Rattle.ds_cell.proofs.cell.Cell.write_new.Goals as goal
 
 pub invariant_of-self-then-self-at-2 : goal.invariant_of-self-then-self-at-2
 invariant_of-self-then-self-at-2 c =
