@@ -1,4 +1,4 @@
-use Rattle.std.proofs.Common.{◌≡◌, ◌++◌}
+use Rattle.std.proofs.Common.{◌≡◌}
 use Rattle.ds_cell.specs.Replies.{gone_keys}
 use Rattle.ds_cell.proofs.body.gone_keys.Given as goal
 

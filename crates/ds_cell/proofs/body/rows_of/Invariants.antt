@@ -1,4 +1,4 @@
-use Rattle.std.proofs.Common.{◌≡◌, ◌++◌}
+use Rattle.std.proofs.Common.{◌≡◌}
 use Rattle.ds_cell.specs.Replies.{rows_of}
 use Rattle.ds_cell.proofs.body.rows_of.Given as goal
 
