@@ -29,6 +29,7 @@ use Rattle.ds_cell.specs.Kinds.{judge_nothing, judge_read, judge_query, judge_pu
 use Rattle.ds_cell.specs.LawProofs.{guarded-keep}
 use Rattle.ds_cell.specs.Requests.{deed_of, ask_request}
 use Rattle.ds_cell.specs.Store.{put_cell, write_all}
+use Rattle.ds_rule.proofs.Writes.{Puts, more_puts, no_puts}
 use Rattle.ds_range.specs.Asks.{wrote_once, wrote_each}
 
 -- whether a write stands under the request's number
@@ -69,11 +70,8 @@ put_free (AdminTransferLease a) at c w b h = keeps_not (too_old at c) _ b w h
 
 -- all keys of a request
 
-abbrev Writes : Type 0
-Writes = List (List ℕ × Option Value)
-
 -- the number is free at each of the keys, which rise
-abbrev pub AllFree : At → Writes → Cells → Type 0
+abbrev pub AllFree : At → Puts → Cells → Type 0
 AllFree at [] cells = Unit {0}
 AllFree at (w ∷ ws) cells = (stands at (content_at w.0 cells) ≡ false) × AllOver key_of w.0 ws × AllFree at ws cells
 
@@ -100,41 +98,27 @@ there_between cells s e (p ∷ ps) all =
       | false ↦ there_between cells s e ps all.1
     ]
 
-gave_writes : (bs cs : List (List ℕ × Bit)) (ws vs : Writes) → Gave bs ws ≡ Gave cs vs → ws ≡ vs
-gave_writes bs cs ws vs h = cc
-
-failed_gave : {G : Type 0} (k : List ℕ) (f : _) (cs : List (List ℕ × Bit)) (vs : Writes) → Failed k f ≡ Gave cs vs → G
-failed_gave k f cs vs h = cc
-
--- a statement on the writes of what one key more gives
-more_writes : (P : Writes → Type 0) (k : List ℕ) (v : Verdict) (r : Asked) (cs : List (List ℕ × Bit)) (vs : Writes) → ((bs : List (List ℕ × Bit)) (ws : Writes) → r ≡ Gave bs ws → P ws) → ((bs : List (List ℕ × Bit)) (ws : Writes) (w : Option Value) (b : Bit) → v ≡ Write w b → r ≡ Gave bs ws → P ((k, w) ∷ ws)) → one_more k v r ≡ Gave cs vs → P vs
-more_writes P k (Refuse f) r cs vs kept put h = failed_gave k f cs vs h
-more_writes P k (Keep b) (Failed q f) cs vs kept put h = failed_gave q f cs vs h
-more_writes P k (Write w b) (Failed q f) cs vs kept put h = failed_gave q f cs vs h
-more_writes P k (Keep b) (Gave bs ws) cs vs kept put h = subst P (gave_writes _ cs ws vs h) (kept bs ws refl)
-more_writes P k (Write w b) (Gave bs ws) cs vs kept put h = subst P (gave_writes _ cs ((k, w) ∷ ws) vs h) (put bs ws w b refl refl)
-
-over_writes : (d : Content → Verdict) (q : List ℕ) (ps : Cells) (cs : List (List ℕ × Bit)) (vs : Writes) → AllOver key_of q ps → ask_each d ps ≡ Gave cs vs → AllOver key_of q vs
-over_writes d q [] cs vs over h = subst (AllOver key_of q) (gave_writes [] cs [] vs h) tt
+over_writes : (d : Content → Verdict) (q : List ℕ) (ps : Cells) (cs : List (List ℕ × Bit)) (vs : Puts) → AllOver key_of q ps → ask_each d ps ≡ Gave cs vs → AllOver key_of q vs
+over_writes d q [] cs vs over h = no_puts (AllOver key_of q) cs vs tt h
 over_writes d q (p ∷ ps) cs vs over h =
-    more_writes (AllOver key_of q) p.0 (d p.1) (ask_each d ps) cs vs
+    more_puts (AllOver key_of q) p.0 (d p.1) (ask_each d ps) cs vs
     (λ bs ws e. over_writes d q ps bs ws over.1 e)
     (λ bs ws w b is e. (over.0, over_writes d q ps bs ws over.1 e)) h
 
-frees : (r : Request) (at : At) (cells ps : Cells) (cs : List (List ℕ × Bit)) (vs : Writes) → Ascends key_of ps → AllThere cells ps → ask_each (deed_of r at) ps ≡ Gave cs vs → AllFree at vs cells
-frees r at cells [] cs vs asc all h = subst (λ ws. AllFree at ws cells) (gave_writes [] cs [] vs h) tt
+frees : (r : Request) (at : At) (cells ps : Cells) (cs : List (List ℕ × Bit)) (vs : Puts) → Ascends key_of ps → AllThere cells ps → ask_each (deed_of r at) ps ≡ Gave cs vs → AllFree at vs cells
+frees r at cells [] cs vs asc all h = no_puts (λ ws. AllFree at ws cells) cs vs tt h
 frees r at cells (p ∷ ps) cs vs asc all h =
-    more_writes (λ ws. AllFree at ws cells) p.0 (deed_of r at p.1) (ask_each (deed_of r at) ps) cs vs
+    more_puts (λ ws. AllFree at ws cells) p.0 (deed_of r at p.1) (ask_each (deed_of r at) ps) cs vs
     (λ bs ws e. frees r at cells ps bs ws asc.1 all.1 e)
     (λ bs ws w b is e.
     (subst (λ c. stands at c ≡ false) (sym all.0) (put_free r at p.1 w b is), over_writes (deed_of r at) p.0 ps bs ws asc.0 e, frees r at cells ps bs ws asc.1 all.1 e)) h
 
-free_at : (r : Request) (at : At) (x : Reach) (cells : Cells) (cs : List (List ℕ × Bit)) (vs : Writes) → Ascends key_of cells → ask_at (deed_of r at) x cells ≡ Gave cs vs → AllFree at vs cells
+free_at : (r : Request) (at : At) (x : Reach) (cells : Cells) (cs : List (List ℕ × Bit)) (vs : Puts) → Ascends key_of cells → ask_at (deed_of r at) x cells ≡ Gave cs vs → AllFree at vs cells
 free_at r at (Point k) cells cs vs asc h = frees r at cells ((k, content_at k cells) ∷ []) cs vs (tt, tt) (refl, tt) h
 free_at r at (Over s e) cells cs vs asc h =
     frees r at cells (between key_of s e cells) cs vs (ascends-between key_of s e cells asc) (there_between cells s e cells (there_all cells asc)) h
 
-pub free_writes : (r : Request) (at : At) (cells : Cells) (cs : List (List ℕ × Bit)) (vs : Writes) → Ascends key_of cells → ask_request r at cells ≡ Gave cs vs → AllFree at vs cells
+pub free_writes : (r : Request) (at : At) (cells : Cells) (cs : List (List ℕ × Bit)) (vs : Puts) → Ascends key_of cells → ask_request r at cells ≡ Gave cs vs → AllFree at vs cells
 free_writes r at cells cs vs asc h = free_at r at (reach_of r) cells cs vs asc h
 
 -- a cell put in at one key leaves the others
@@ -157,13 +141,13 @@ content-beside k q c (p ∷ ps) apart =
           ]
     ] refl
 
-free_beside : (at : At) (k : List ℕ) (c : Content) (ws : Writes) (cells : Cells) → AllOver key_of k ws → AllFree at ws cells → AllFree at ws (insert_entry key_cmp cells k c)
+free_beside : (at : At) (k : List ℕ) (c : Content) (ws : Puts) (cells : Cells) → AllOver key_of k ws → AllFree at ws cells → AllFree at ws (insert_entry key_cmp cells k c)
 free_beside at k c [] cells over free = tt
 free_beside at k c (w ∷ ws) cells over free =
     (subst (λ z. stands at z ≡ false) (sym (content-beside k w.0 c cells (lt_not_eq k w.0 over.0))) free.0, free.1, free_beside at k c ws cells over.1 free.2)
 
 -- where the number is free, the writes are made
-each_free : (at : At) (ws : Writes) (cells : Cells) → AllFree at ws cells → wrote_each at ws cells ≡ write_all at ws cells
+each_free : (at : At) (ws : Puts) (cells : Cells) → AllFree at ws cells → wrote_each at ws cells ≡ write_all at ws cells
 each_free at [] cells free = refl
 each_free at (w ∷ ws) cells free =
     let c = content_at w.0 cells in
@@ -172,5 +156,5 @@ each_free at (w ∷ ws) cells free =
     ∙ each_free at ws (insert_entry key_cmp cells w.0 (wrote at w.1 c)) (free_beside at w.0 (wrote at w.1 c) ws cells free.1 free.2)
 
 -- the writes that a request gave are made
-pub wrote_all : (r : Request) (at : At) (cells : Cells) (bs : List (List ℕ × Bit)) (ws : Writes) → Ascends key_of cells → ask_request r at cells ≡ Gave bs ws → wrote_each at ws cells ≡ write_all at ws cells
+pub wrote_all : (r : Request) (at : At) (cells : Cells) (bs : List (List ℕ × Bit)) (ws : Puts) → Ascends key_of cells → ask_request r at cells ≡ Gave bs ws → wrote_each at ws cells ≡ write_all at ws cells
 wrote_all r at cells bs ws asc h = each_free at ws cells (free_writes r at cells bs ws asc h)
