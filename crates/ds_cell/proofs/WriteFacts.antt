@@ -1,14 +1,13 @@
 -- A write under a number above all others comes last, and is seen.
-use Rattle.std.proofs.Common.{◌≡◌, ℕ, ◌≤◌, ◌<◌, Bool, true, false, cond, List, [], ◌∷◌, ◌++◌, reverse, refl, sym, ap, ◌∙◌, Option, Some, None, arith, nat_lt, nat_le}
+use Rattle.std.proofs.Common.{◌≡◌, ℕ, ◌≤◌, ◌<◌, true, false, cond, List, [], ◌∷◌, ◌++◌, reverse, refl, ap, ◌∙◌, Option, Some, arith, nat_lt, nat_le}
 use Rattle.std.specs.List.{find}
 use Rattle.std.proofs.lemmas.List.{reverse-append}
 use Rattle.std.proofs.lemmas.Bool.Decides.{nat_tests}
 use Rattle.ds_base.specs.declared.value.Value.{Value}
 use Rattle.ds_cell.specs.declared.entry.At.{At}
-use Rattle.ds_cell.specs.declared.entry.Version.{Version}
 use Rattle.ds_cell.specs.declared.entry.Written.{Written}
-use Rattle.ds_cell.specs.Content.{Content, stamp_of, seq_of}
-use Rattle.ds_cell.specs.Seen.{last_where, own, newest, version_at, value_seen, seen}
+use Rattle.ds_cell.specs.Content.{Content, seq_of}
+use Rattle.ds_cell.specs.Seen.{own, newest, version_at, value_seen, seen}
 use Rattle.ds_cell.specs.Change.{with_write, wrote}
 use Rattle.ds_cell.specs.LawProofs.{own-wrote}
 use Rattle.ds_cell.proofs.RisingFacts.{insert_before, insert-place}

@@ -1,10 +1,9 @@
 -- The plain store: what one store would hold that knows no ranges.
-use Rattle.std.specs.Prelude.{◌≡◌, ℕ, List, [], ◌∷◌, map, Option, Some, None, refl}
+use Rattle.std.specs.Prelude.{◌≡◌, ℕ, List, [], ◌∷◌, map, Option, None, refl}
 use Rattle.std.specs.BTreeMap.{insert_entry}
 use Rattle.ds_base.specs.Order.{key_cmp}
 use Rattle.ds_base.specs.declared.value.Stamp.{Stamp}
 use Rattle.ds_base.specs.declared.value.Value.{Value}
-use Rattle.ds_base.specs.declared.value.Value.TheVariants.{Int}
 use Rattle.ds_kind.specs.declared.reply.TxnStatus.{TxnStatus}
 use Rattle.ds_cell.specs.declared.entry.At.{At}
 use Rattle.ds_cell.specs.declared.entry.Version.{Version}

@@ -1,13 +1,24 @@
 //! What each kind does to one key, and the laws of a kind.
 ghost use Rattle.std.specs.Prelude.{◌≡◌, IfOk, IfErr, Option};
 ghost use Rattle.std.specs.Option.{option_copied};
+ghost use Rattle.ds_cell.specs.Deed.{guarded};
 
 use crate::cell::Cell;
 use crate::entry::At;
 use crate::verdict::{ActFault, Bit, Verdict};
-use ds_base::{Key, Seq, Value};
+use ds_base::{Key, Seq, Stamp, Value};
 use ds_kind::Kind;
 use std::alloc::{AllocError, Global};
+
+// A write is refused where a stamp stands in its way; everything else goes before that.
+fn guarded(in_the_way: Option<Stamp>, verdict: Verdict) -> Verdict
+    ensures { result ≡ guarded in_the_way verdict }
+{
+    match (in_the_way, verdict) {
+        (Some(stamp), Verdict::Put(_, _)) => Verdict::Refuse(ActFault::TooOld { stamp }),
+        (_, verdict) => verdict,
+    }
+}
 
 /// A kind that acts on keys. Its meaning is [`judge`](Acts::judge), what it decides by what it sees of a
 /// key, and [`again`](Acts::again), what it answers for a write that it made before. From these two
@@ -44,6 +55,26 @@ pub trait Acts: Kind {
     fn again(alloc: Global, written: Option<&Value>) -> Result<Bit, AllocError>
         ensures { IfOk result (λ b. b ≡ again (option_copied written.entry)) };
 
+    /// What a request of the kind decides for a key of its span, by what it sees there. The one refusal
+    /// is want of memory.
+    fn decide(alloc: Global, args: &Self::Args, cell: &Cell, at: At) -> Result<Verdict, AllocError>
+        ensures { IfOk result (λ v. v ≡ deed (is_numbered Self.FLAGS) (judge args.now) again at cell.now) }
+    {
+        let numbered = Self::FLAGS.is_numbered();
+        if numbered {
+            if let Some(write) = cell.written(at, at.seq) {
+                return Ok(Verdict::Keep(Self::again(alloc, write.value.as_ref())?));
+            }
+        }
+        let look = if numbered {
+            Seq(at.seq.0.saturating_sub(1))
+        } else {
+            at.seq
+        };
+        let verdict = Self::judge(alloc, args, cell, at, look)?;
+        Ok(guarded(cell.too_old(at), verdict))
+    }
+
     /// What a request of the kind does to a key of its span. Any fault leaves the cell as it was.
     fn act(
         alloc: Global,
@@ -55,29 +86,13 @@ pub trait Acts: Kind {
         ensures ok { IfOk result (λ b. IsBitOf (deed (is_numbered Self.FLAGS) (judge args.now) again at cell.old) b × (cell.new ≡ content_after at (deed (is_numbered Self.FLAGS) (judge args.now) again at cell.old) cell.old)) }
         ensures err { IfErr result (λ f. IsFaultOf (deed (is_numbered Self.FLAGS) (judge args.now) again at cell.old) f × (cell.new ≡ cell.old)) }
     {
-        let numbered = Self::FLAGS.is_numbered();
-        if numbered {
-            if let Some(write) = cell.written(at, at.seq) {
-                return Self::again(alloc, write.value.as_ref()).map_err(|_| ActFault::Memory(
-                    AllocError,
-                ));
-            }
-        }
-        let look = if numbered {
-            Seq(at.seq.0.saturating_sub(1))
-        } else {
-            at.seq
-        };
-        let verdict = Self::judge(alloc, args, cell, at, look).map_err(|_| ActFault::Memory(
+        let verdict = Self::decide(alloc, args, cell, at).map_err(|_| ActFault::Memory(
             AllocError,
         ))?;
         match verdict {
             Verdict::Keep(bit) => Ok(bit),
             Verdict::Refuse(fault) => Err(fault),
             Verdict::Put(value, bit) => {
-                if let Some(stamp) = cell.too_old(at) {
-                    return Err(ActFault::TooOld { stamp });
-                }
                 cell.write(at, value)
                     .map_err(|_| ActFault::Memory(AllocError))?;
                 Ok(bit)

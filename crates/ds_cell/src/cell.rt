@@ -1,5 +1,5 @@
 //! The content of one key.
-ghost use Rattle.std.specs.Prelude.{◌≡◌, ◌≤◌, ◌++◌, OnOk, IfOk, OnErr, Some, None, length, slice_get, MatchOption};
+ghost use Rattle.std.specs.Prelude.{◌≡◌, ◌≤◌, ◌++◌, OnOk, IfOk, OnErr, Some, None, length, slice_get, MatchOption, is_some, if◌then◌else◌};
 ghost use Rattle.std.specs.Option.{option_copied};
 ghost use Rattle.ds_cell.specs.Content.{no_content, IsContent, stamp_of, seq_of};
 ghost use Rattle.ds_cell.specs.Seen.{own, held, seen, newest, version_at, under, too_old, newest_from, IsLatest, IsNewestFrom};
@@ -132,8 +132,19 @@ impl Cell {
         }
     }
 
-    // Writes under the request's number.
-    pub(crate) fn write(&mut self, at: At, value: Option<Value>) -> Result<(), AllocError>
+    /// Writes under the request's number, unless a write of its transaction and epoch stands under it
+    /// already. Want of memory leaves the cell as it was.
+    pub fn write(&mut self, at: At, value: Option<Value>) -> Result<(), AllocError>
+        ensures ok { OnOk result (self.new ≡ (if is_some (under at.seq.0 (own at self.old)) then self.old else wrote at value self.old)) }
+        ensures err { OnErr result (self.new ≡ self.old) }
+    {
+        if self.written(at, at.seq).is_some() {
+            return Ok(());
+        }
+        self.write_new(at, value)
+    }
+
+    fn write_new(&mut self, at: At, value: Option<Value>) -> Result<(), AllocError>
         requires { under at.seq.0 (own at self.old) ≡ None }
         ensures ok { OnOk result (self.new ≡ wrote at value self.old) }
         ensures err { OnErr result (self.new ≡ self.old) }

@@ -2,6 +2,7 @@
 #![tactic(auto)]
 
 pub mod acts;
+pub mod body;
 pub mod cell;
 mod control;
 pub mod entry;
@@ -14,7 +15,8 @@ pub mod verdict;
 mod writes;
 
 pub use acts::Acts;
+pub use body::{Bits, body_of};
 pub use cell::Cell;
 pub use entry::{At, Version, Written};
-pub use request::act_request;
+pub use request::{act_request, decide_request};
 pub use verdict::{ActFault, Bit, Verdict};

@@ -14,10 +14,10 @@ ghost use Rattle.ds_cell.specs.Laws.{JoinLaw, PointLaw, RepeatLaw, RepeatSpanLaw
 use crate::acts::Acts;
 use crate::cell::Cell;
 use crate::entry::At;
-use crate::verdict::{ActFault, Bit};
+use crate::verdict::{ActFault, Bit, Verdict};
 use ds_base::Key;
 use ds_kind::{Request, on_kind};
-use std::alloc::Global;
+use std::alloc::{AllocError, Global};
 
 fn act_by<K: Acts>(
     alloc: Global,
@@ -30,6 +30,29 @@ fn act_by<K: Acts>(
     ensures err { IfErr result (λ f. IsFaultOf (deed (is_numbered K.FLAGS) (K.judge args.now) K.again at cell.old) f × (cell.new ≡ cell.old)) }
 {
     K::act(alloc, key, cell, at, args)
+}
+
+fn decide_by<K: Acts>(
+    alloc: Global,
+    cell: &Cell,
+    at: At,
+    args: &K::Args,
+) -> Result<Verdict, AllocError>
+    ensures { IfOk result (λ v. v ≡ deed (is_numbered K.FLAGS) (K.judge args.now) K.again at cell.now) }
+{
+    K::decide(alloc, args, cell, at)
+}
+
+/// What a request decides for one key of its span. The one refusal is want of memory.
+pub fn decide_request(
+    alloc: Global,
+    cell: &Cell,
+    at: At,
+    request: &Request,
+) -> Result<Verdict, AllocError>
+    ensures { IfOk result (λ v. v ≡ deed_of request.now at cell.now) }
+{
+    on_kind!(request, decide_by(alloc, cell, at))
 }
 
 /// What a request does to one key of its span. Any fault leaves the cell as it was.

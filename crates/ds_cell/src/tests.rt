@@ -1,15 +1,16 @@
 //! Each public call, and what requests do to one cell.
 use crate::acts::Acts;
+use crate::body::{Bits, body_of};
 use crate::cell::Cell;
 use crate::entry::At;
-use crate::request::{act_request, laws, request_laws, unnoticed};
-use crate::verdict::{ActFault, Bit};
+use crate::request::{act_request, decide_request, laws, request_laws, unnoticed};
+use crate::verdict::{ActFault, Bit, Verdict};
 use ds_base::{Copies, Key, Seq, Stamp, Text, TxnNo, Value};
-use ds_kind::Request;
 use ds_kind::kinds::{
     ConditionalPut, ConditionalPutArgs, DeleteRange, DeleteRangeArgs, GetArgs, Increment,
-    IncrementArgs, InitPut, InitPutArgs, Put, PutArgs,
+    IncrementArgs, InitPut, InitPutArgs, Put, PutArgs, ReverseScanArgs,
 };
+use ds_kind::{Body, Request};
 use std::alloc::Global;
 use std::test::Fail;
 
@@ -207,5 +208,45 @@ fn requests_of_any_kind(rt: HostRuntime) -> Result<(), Fail> {
             4
         )
     );
+    Ok(())
+}
+
+fn first_is(body: &Body, n: i64) -> bool {
+    match body {
+        Body::Rows(rows) => match rows.get(0) {
+            Some(row) => matches!(row.value, Value::Int(m) if m == n),
+            None => false,
+        },
+        _ => false,
+    }
+}
+
+#[test]
+fn a_scan_in_reverse_gives_the_greatest_key_first(rt: HostRuntime) -> Result<(), Fail> {
+    let alloc = rt.alloc();
+    let mut bits = Bits::new(alloc);
+    bits.push(alloc, (Key::least(alloc), Bit::Value(Some(Value::Int(1)))))?;
+    bits.push(alloc, (Key::bound(alloc)?, Bit::Value(Some(Value::Int(2)))))?;
+    let request = Request::ReverseScan(ReverseScanArgs {
+        start: Key::least(alloc),
+        end: Key::bound(alloc)?,
+    });
+    let body = body_of(alloc, &request, bits)?;
+    assert!(rt; first_is(&body, 2));
+    Ok(())
+}
+
+#[test]
+fn a_put_is_decided_before_it_is_written(rt: HostRuntime) -> Result<(), Fail> {
+    let alloc = rt.alloc();
+    let mut cell = Cell::new(alloc);
+    let request = Request::Put(PutArgs {
+        key: Key::least(alloc),
+        value: Value::Int(5),
+    });
+    let verdict = decide_request(alloc, &cell, at(1), &request)?;
+    assert!(rt; matches!(verdict, Verdict::Put(Some(Value::Int(5)), Bit::Nothing)));
+    cell.write(at(1), Some(Value::Int(5)))?;
+    assert!(rt; sees(&cell, at(1), 5));
     Ok(())
 }

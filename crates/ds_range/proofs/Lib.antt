@@ -1,1 +1,6 @@
-pub mod Serving
+pub mod Asking
+pub mod Freedom
+pub mod Held
+pub mod Maps
+pub mod Piecing
+pub mod Settling

@@ -1,7 +1,16 @@
 //! One range: its descriptor with its lease, what stands at each of its keys, and what it answers.
 #![tactic(auto)]
 
+pub mod ask;
+mod change;
+mod keep;
 pub mod serve;
+mod settle;
 pub mod state;
+#[cfg(test)]
+mod tests;
 
+pub use ask::{Asked, Writes};
+pub use keep::Undo;
+pub use serve::Applied;
 pub use state::RangeState;

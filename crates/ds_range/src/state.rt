@@ -1,16 +1,26 @@
 //! The state of one range.
-ghost use Rattle.std.specs.Prelude.{◌≡◌, [], ◌++◌, ◌&&◌, true, false, IfOk, OnOk, OnErr};
-ghost use Rattle.ds_base.specs.Order.{key_lt, key_le};
+ghost use Rattle.std.specs.Prelude.{◌≡◌, [], ◌&&◌, IfOk, OnOk, OnErr, map};
+ghost use Rattle.std.specs.List.{list_all};
+ghost use Rattle.ds_cell.specs.Ask.{key_of};
 ghost use Rattle.ds_cell.specs.Change.{after_foreign};
-ghost use Rattle.ds_cell.specs.Seen.{seen};
-ghost use Rattle.ds_rule.specs.Rows.{scan, one_row, content_at};
-ghost use Rattle.ds_rule.specs.Deliver.{sees, txn_of, at_of, holds_item};
-ghost use Rattle.ds_rule.specs.Moves.{put_cell};
+ghost use Rattle.ds_cell.specs.Requests.{ask_request};
+ghost use Rattle.ds_cell.specs.Store.{put_cell};
+ghost use Rattle.ds_rule.specs.Asking.{at_of, ask_all};
+ghost use Rattle.ds_rule.specs.Close.{settle_range};
+ghost use Rattle.ds_rule.specs.Deliver.{answer_made, holds_item};
+ghost use Rattle.ds_range.specs.Asks.{asked_of};
+ghost use Rattle.ds_range.specs.Keeps.{restored};
+ghost use Rattle.ds_range.specs.Serves.{answer_of, undo_of, after_made};
 
-use ds_base::{Copies, Key, Seq, Stamp, TxnNo, Value};
-use ds_cell::{At, Cell};
+use crate::ask::{Asked, ask_cells};
+use crate::change::{Foreign, change_at};
+use crate::keep::{Undo, put_all_back};
+use crate::serve::{Applied, apply_to, at_of};
+use crate::settle::settle_all;
+use ds_base::{Key, Stamp, TxnNo, Value};
+use ds_cell::Cell;
 use ds_desc::Info;
-use ds_kind::{Bounds, Head, Item, Row, Rows};
+use ds_kind::{Bounds, Head, Item, Piece};
 use std::alloc::{AllocError, Global};
 use std::collections::BTreeMap;
 use std::marker::Model;
@@ -29,55 +39,6 @@ impl Model for RangeState {
     ghost Value = { Range };
 
     ghost view = { λ r. record { info = r.info; cells = r.cells.entries } };
-}
-
-/// Who asks under the number.
-fn at_of(head: &Head, seq: Seq) -> At
-    ensures { result ≡ at_of head.now seq.0 }
-{
-    At {
-        stamp: head.at,
-        txn: match head.txn {
-            Some(txn) => txn,
-            None => TxnNo(0),
-        },
-        seq,
-        epoch: head.epoch,
-    }
-}
-
-/// Adds the row of a key, where a value is seen there.
-fn add_row(alloc: Global, rows: &mut Rows, key: &Key, cell: &Cell, at: At) -> Result<(), AllocError>
-    ensures { OnOk result (rows.new ≡ rows.old ++ one_row key.now (seen at at.seq.0 cell.now) []) }
-{
-    if let Some(value) = cell.seen(at) {
-        rows.push(
-            alloc,
-            Row {
-                key: key.copy(alloc)?,
-                value: value.copy(alloc)?,
-            },
-        )?;
-    }
-    Ok(())
-}
-
-/// The rows of the keys from `start` up to `end`.
-fn rows_between(
-    alloc: Global,
-    cells: &BTreeMap<Key, Cell>,
-    at: At,
-    start: &Key,
-    end: &Key,
-) -> Result<Rows, AllocError>
-    requires { key_lt start.now end.now ≡ true }
-    ensures { IfOk result (λ rows. rows ≡ scan (seen at at.seq.0) start.now end.now cells.now.entries) }
-{
-    let mut rows = Rows::new(alloc);
-    'cells: for (key, cell) in cells.range(start..end) {
-        add_row(alloc, &mut rows, key, cell, at)?;
-    }
-    Ok(rows)
 }
 
 impl RangeState {
@@ -100,17 +61,6 @@ impl RangeState {
         &self.info
     }
 
-    /// A copy of what stands at a key.
-    #[tactic(auto, using(crate::proofs::Serving::content_some, crate::proofs::Serving::content_none))]
-    fn cell_at(&self, alloc: Global, key: &Key) -> Result<Cell, AllocError>
-        ensures { IfOk result (λ c. c ≡ content_at key.now self.now.cells) }
-    {
-        match self.cells.get(key) {
-            Some(cell) => cell.copy(alloc),
-            None => Ok(Cell::new(alloc)),
-        }
-    }
-
     /// A write of another client at a key of the range. Want of memory leaves the contents as they
     /// were.
     pub fn foreign(
@@ -123,30 +73,47 @@ impl RangeState {
         ensures ok { OnOk result (self.new ≡ record (self.old) { cells = put_cell key.now (after_foreign (record { stamp = stamp; value = value })) (self.old).cells }) }
         ensures err { OnErr result (self.new ≡ self.old) }
     {
-        let mut cell = self.cell_at(alloc, key)?;
-        cell.foreign(alloc, stamp, value)?;
-        let key = key.copy(alloc)?;
-        self.cells.insert(key, cell)?;
-        Ok(())
+        change_at(alloc, &mut self.cells, key, Foreign { stamp, value })
     }
 
-    /// The rows of a scan from `start` up to `end`, by who asks under the number.
-    #[tactic(auto, using(crate::proofs::Serving::scan_empty))]
-    pub fn scan(
-        &self,
-        alloc: Global,
-        head: &Head,
-        seq: Seq,
-        start: &Key,
-        end: &Key,
-    ) -> Result<Rows, AllocError>
-        ensures { IfOk result (λ rows. rows ≡ scan (sees head.now seq.0) start.now end.now self.now.cells) }
+    /// What the item's request gives of what the range holds, at the keys where it acts.
+    pub fn ask(&self, alloc: Global, head: &Head, item: &Item) -> Result<Asked, AllocError>
+        ensures { IfOk result (λ a. asked_of a ≡ ask_request item.now.request (at_of head.now item.now.seq.0) self.now.cells) }
     {
-        if *start < *end {
-            rows_between(alloc, &self.cells, at_of(head, seq), start, end)
-        } else {
-            Ok(Rows::new(alloc))
-        }
+        ask_cells(alloc, &self.cells, at_of(head, item.seq), &item.request)
+    }
+
+    /// Serves the piece's items in order, each on what those before it left, and commits what it wrote
+    /// unless it is of a transaction. A failure and want of memory leave the range as it was.
+    pub fn apply(&mut self, alloc: Global, piece: &Piece) -> Result<Applied, AllocError>
+        ensures answer { IfOk result (λ a. answer_of a ≡ answer_made (ask_all piece.now.head piece.now.items (self.old).cells)) }
+        ensures after { IfOk result (λ a. self.new ≡ record (self.old) { cells = after_made piece.now.head (ask_all piece.now.head piece.now.items (self.old).cells) (self.old).cells }) }
+        ensures back { IfOk result (λ a. restored (undo_of a) (self.new).cells ≡ (self.old).cells) }
+        ensures err { OnErr result (self.new ≡ self.old) }
+    {
+        apply_to(alloc, &mut self.cells, piece)
+    }
+
+    /// Puts back what was kept, the last first. It takes no memory.
+    pub fn undo(&mut self, undo: Undo)
+        ensures { self.new ≡ record (self.old) { cells = restored undo (self.old).cells } }
+    {
+        put_all_back(&mut self.cells, undo);
+    }
+
+    /// Settles every intent of the transaction: its last write becomes a version at the commit's
+    /// stamp, or is dropped where there is no commit. After want of memory some may be settled.
+    pub fn settle(
+        &mut self,
+        alloc: Global,
+        txn: TxnNo,
+        commit: Option<Stamp>,
+    ) -> Result<(), AllocError>
+        ensures ok { OnOk result (self.new ≡ settle_range txn.0 commit self.old) }
+        ensures info { (self.new).info ≡ (self.old).info }
+        ensures keys { map key_of (self.new).cells ≡ map key_of (self.old).cells }
+    {
+        settle_all(alloc, &mut self.cells, txn, commit)
     }
 
     /// Whether the item's span lies in the range.
@@ -158,5 +125,12 @@ impl RangeState {
             Bounds::Point(key) => span.contains(key),
             Bounds::Between(start, end) => span.start <= *start && *end <= span.end,
         }
+    }
+
+    /// Whether the range holds each item's span.
+    pub fn holds_all(&self, items: &[Item]) -> bool
+        ensures { result ≡ list_all (holds_item self.now) items.now }
+    {
+        items.iter().all(|item| self.holds_item(item))
     }
 }

@@ -1,5 +1,6 @@
 pub mod Alike
 pub mod Course
+pub mod Delivered
 pub mod Failing
 pub mod Gathering
 pub mod Joining
@@ -19,4 +20,5 @@ pub mod Tiling
 pub mod Trips
 pub mod Truth
 pub mod WholeLaw
+pub mod Writes
 pub mod Writing

@@ -1,4 +1,7 @@
+pub mod Alike
 pub mod Begins
+pub mod Closing
+pub mod Delivering
 pub mod Places
 pub mod RowSteps
 pub mod Sending

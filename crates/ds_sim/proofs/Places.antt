@@ -5,9 +5,10 @@ use Rattle.std.specs.declared.alloc.AllocError.{AllocError}
 use Rattle.std.proofs.lemmas.Option.{get_or_from_slice_get}
 use Rattle.std.proofs.lemmas.List.{set-get_or}
 use Rattle.ds_cell.specs.Content.{Content}
-use Rattle.ds_rule.specs.Moves.{holds_key, put_cell}
+use Rattle.ds_cell.specs.Store.{put_cell}
+use Rattle.ds_rule.specs.Moves.{holds_key}
 use Rattle.ds_rule.proofs.Tiling.{tiles-put}
-use Rattle.std.specs.List.{position_or_len, prefix_len}
+use Rattle.std.specs.List.{find, position_or_len, prefix_len}
 use Rattle.std.proofs.Math.ListN.{set}
 use Rattle.std.proofs.lemmas.Bool.Decides.{nat_tests}
 use Rattle.ds_rule.specs.World.{Range, Tiles}
@@ -91,3 +92,35 @@ unwritten xs i old y (Err e) at is =
 pub written_tiles : (k : List ℕ) (f : Content → Content) (xs : List Range) (i : ℕ) (y : Range) → {U : Type 0} → (r : Result U AllocError) → OnOk r (set xs i y ≡ replaced (holds_key k) (λ r. record r { cells = put_cell k f r.cells }) xs) → OnErr r (set xs i y ≡ xs) → Tiles [] xs → Tiles [] (set xs i y)
 written_tiles k f xs i y (Ok u) ok err t = subst (Tiles []) (sym ok) (tiles-put k f [] xs t)
 written_tiles k f xs i y (Err e) ok err t = subst (Tiles []) (sym err) t
+
+-- the one that was found is the first that passes
+find_at : (p : Range → Bool) (xs : List Range) (i : ℕ) (y : Range) → i ≡ position_or_len p xs → i < length xs → y ≡ get_or xs i y → find p xs ≡ Some y
+find_at p [] i y at low is = absurd (omega arith)
+find_at p (x ∷ xs) i y at low is =
+    elim (p x) as (λ t. p x ≡ t → i ≡ cond (not t) (1 + position_or_len p xs) 0 → cond t (Some x) (find p xs) ≡ Some y) [
+      | true ↦ λ e here. ap Some (sym (subst (λ k. y ≡ get_or (x ∷ xs) k y) here is))
+      | false ↦ λ e here.
+          let j = position_or_len p xs in
+          let next : 1 + j ≡ suc j = omega arith in
+          subst (λ k. k < length (x ∷ xs) → y ≡ get_or (x ∷ xs) k y → find p xs ≡ Some y) (sym (here ∙ next))
+          (λ l h. find_at p xs j y refl (omega (arith, l)) h) low is
+    ] refl at
+
+pub find_placed : (p : Range → Bool) (xs : List Range) (i : ℕ) (old : Range) → position p xs ≡ Some i → slice_get xs i ≡ Some old → find p xs ≡ Some old
+find_placed p xs i old h at =
+    let k = found p xs i h in find_at p xs i old k.at k.low (sym (get_or_from_slice_get xs i old old at))
+
+none_found : (p : Range → Bool) (xs : List Range) → length xs ≤ position_or_len p xs → find p xs ≡ None
+none_found p [] h = refl
+none_found p (x ∷ xs) h =
+    elim (p x) as (λ t. p x ≡ t → length (x ∷ xs) ≤ cond (not t) (1 + position_or_len p xs) 0 → cond t (Some x) (find p xs) ≡ None) [
+      | true ↦ λ e g. absurd (omega (arith, g))
+      | false ↦ λ e g. none_found p xs (omega (arith, g))
+    ] refl h
+
+pub find_none : (p : Range → Bool) (xs : List Range) → position p xs ≡ None → find p xs ≡ None
+find_none p xs h =
+    elim (nat_lt (position_or_len p xs) (length xs)) as (λ t. nat_lt (position_or_len p xs) (length xs) ≡ t → cond t (Some (position_or_len p xs)) None ≡ None → find p xs ≡ None) [
+      | true ↦ λ e g. some_none _ g
+      | false ↦ λ e g. none_found p xs (ge_of _ _ e)
+    ] refl h

@@ -2,9 +2,14 @@
 #![tactic(auto)]
 
 pub mod begin;
+mod deliver;
 pub mod ranges;
+mod records;
 pub mod rows;
+mod settle;
 pub mod sim;
+#[cfg(test)]
+mod tests;
 
 pub use begin::tiles;
 pub use ranges::Ranges;

@@ -1,21 +1,24 @@
 //! The ranges of a cluster.
-ghost use Rattle.std.specs.Prelude.{◌≡◌, ◌<◌, ◌-◌, ◌^◌, ◌==◌, true, length, find, position, map, IfOk, OnOk, OnErr};
-ghost use Rattle.std.specs.Option.{option_copied};
-ghost use Rattle.std.specs.List.{list_all};
+ghost use Rattle.std.specs.Prelude.{◌≡◌, ◌<◌, ◌-◌, ◌^◌, ◌++◌, ◌∷◌, [], true, length, position, map, IfOk, OnOk, OnErr};
 ghost use Rattle.ds_desc.specs.Contains.{first_contains, lies_ahead};
-ghost use Rattle.ds_rule.specs.Begin.{ranges_of, tiles};
-ghost use Rattle.ds_rule.specs.Deliver.{answer_at, stops, deliver_answer, has_id, txn_of, status_stops, replaced};
-ghost use Rattle.ds_rule.specs.Moves.{holds_key, put_cell};
 ghost use Rattle.ds_cell.specs.Change.{after_foreign};
+ghost use Rattle.ds_cell.specs.Store.{put_cell};
+ghost use Rattle.ds_rule.specs.declared.journal.JournalStep.TheVariants.{Send};
+ghost use Rattle.ds_rule.specs.Begin.{ranges_of, tiles};
+ghost use Rattle.ds_rule.specs.Close.{settle_range};
+ghost use Rattle.ds_rule.specs.Deliver.{deliver_answer, deliver_world, replaced};
+ghost use Rattle.ds_rule.specs.Moves.{holds_key};
 ghost use Rattle.ds_sim.specs.State.{world_of, rows_of};
 
 use crate::begin::first_ranges;
-use crate::rows::{overlapping, rows_at};
+use crate::deliver::deliver_to;
+use crate::rows::rows_at;
+use crate::settle::settle_ranges;
 use ds_base::{Dir, Key, Stamp, TxnNo, Value};
-use ds_desc::{Infos, Refusal};
-use ds_kind::{Failure, Head, Piece};
+use ds_desc::Infos;
+use ds_kind::Piece;
 use ds_range::RangeState;
-use ds_rule::{Answer, ClusterRange, RecordStatus, TxnRecord};
+use ds_rule::{Answer, ClusterRange, JournalSteps, TxnRecord};
 use std::alloc::{AllocError, Global};
 use std::marker::Model;
 
@@ -34,76 +37,6 @@ impl Model for Ranges {
     ghost view = { λ r. r.items.items };
 
     ghost invariant = { λ r. Tiles [] r.items.items };
-}
-
-/// The number of the transaction that a piece is of, 0 without one.
-fn txn_of(head: &Head) -> TxnNo
-    ensures { result.0 ≡ txn_of head.now }
-{
-    match head.txn {
-        Some(txn) => txn,
-        None => TxnNo(0),
-    }
-}
-
-fn record_of(records: &[TxnRecord], txn: TxnNo) -> Option<&TxnRecord>
-    ensures { option_copied result ≡ find (λ t. t.txn.0 == txn.0) records.now }
-{
-    records.iter().find(|record| record.txn.0 == txn.0)
-}
-
-/// A record that is committed or aborted takes no more pieces.
-fn stopped_by(records: &[TxnRecord], txn: TxnNo) -> Option<Failure>
-    ensures { result ≡ status_stops (find (λ t. t.txn.0 == txn.0) records.now) }
-{
-    match record_of(records, txn) {
-        Some(record) => match record.status {
-            RecordStatus::Committed => Some(Failure::Committed),
-            RecordStatus::Aborted => Some(Failure::Aborted),
-            RecordStatus::Pending | RecordStatus::Staging(_) => None,
-        },
-        None => None,
-    }
-}
-
-fn has_id(range: &RangeState, id: u32) -> bool
-    ensures { result ≡ has_id id range.now }
-{
-    range.info().desc.id == id
-}
-
-fn range_with(ranges: &[RangeState], id: u32) -> Option<&RangeState>
-    ensures { option_copied result ≡ find (has_id id) ranges.now }
-{
-    ranges.iter().find(|range| has_id(range, id))
-}
-
-/// The answer of a range to a piece.
-fn answer_of(
-    alloc: Global,
-    range: &RangeState,
-    ranges: &[RangeState],
-    records: &[TxnRecord],
-    node: u8,
-    piece: &Piece,
-) -> Result<Answer, AllocError>
-    ensures { IfOk result (λ a. a ≡ answer_at (world_of ranges.now records.now 0) piece.now range.now (stops (world_of ranges.now records.now 0) node piece.now range.now)) }
-{
-    let info = range.info();
-    if !info.desc.nodes.contains(node) {
-        return Ok(Answer::Refused(Refusal::NotFound));
-    }
-    if info.lease.node != node {
-        return Ok(Answer::Refused(Refusal::NotLease { lease: info.lease }));
-    }
-    if !range.holds_all(piece.items.as_slice()) {
-        let infos = overlapping(alloc, ranges, &piece.items, piece.dir)?;
-        return Ok(Answer::Refused(Refusal::Mismatch { infos }));
-    }
-    match stopped_by(records, txn_of(&piece.head)) {
-        Some(failure) => Ok(Answer::Failed(failure)),
-        None => Ok(Answer::Done(range.serve(alloc, piece)?)),
-    }
 }
 
 fn holds_key(range: &RangeState, key: &Key) -> bool
@@ -163,20 +96,36 @@ impl Ranges {
         }
     }
 
-    /// What the node answers the piece, where these are the transactions' records.
+    /// Delivers the piece to the node, where these are the transactions' records, and notes the step
+    /// with its answer. Want of memory leaves all as it was.
     pub fn deliver(
-        &self,
+        &mut self,
         alloc: Global,
         records: &[TxnRecord],
         node: u8,
         piece: &Piece,
+        steps: &mut JournalSteps,
     ) -> Result<Answer, AllocError>
-        ensures { IfOk result (λ a. a ≡ deliver_answer (world_of self.now records.now 0) node piece.now) }
+        ensures answer { IfOk result (λ a. a ≡ deliver_answer (world_of self.old records.now 0) node piece.now) }
+        ensures after { IfOk result (λ a. self.new ≡ (deliver_world (world_of self.old records.now 0) node piece.now).ranges) }
+        ensures steps { IfOk result (λ a. steps.new ≡ steps.old ++ Send node piece.now a ∷ []) }
+        ensures err { OnErr result (self.new ≡ self.old) }
+        ensures err_steps { OnErr result (steps.new ≡ steps.old) }
     {
-        let ranges = self.items.as_slice();
-        match range_with(ranges, piece.range) {
-            Some(range) => answer_of(alloc, range, ranges, records, node, piece),
-            None => Ok(Answer::Refused(Refusal::NotFound)),
-        }
+        deliver_to(alloc, &mut self.items, records, node, piece, steps)
+    }
+
+    /// Settles every intent of the transaction: its last write at a key becomes a version at the
+    /// commit's stamp, or is dropped where there is no commit. After want of memory some may be
+    /// settled.
+    pub fn settle(
+        &mut self,
+        alloc: Global,
+        txn: TxnNo,
+        commit: Option<Stamp>,
+    ) -> Result<(), AllocError>
+        ensures { OnOk result (self.new ≡ map (settle_range txn.0 commit) self.old) }
+    {
+        settle_ranges(alloc, &mut self.items, txn, commit)
     }
 }

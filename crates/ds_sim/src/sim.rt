@@ -1,11 +1,15 @@
 //! The cluster as a wire.
-ghost use Rattle.std.specs.Prelude.{◌≡◌, ◌<◌, ◌-◌, ◌^◌, ◌++◌, ◌∷◌, [], true, length, refl, IfOk, OnOk};
-ghost use Rattle.ds_rule.specs.Begin.{ranges_of, tiles};
+ghost use Rattle.std.specs.Prelude.{◌≡◌, ◌<◌, ◌-◌, ◌^◌, [], true, length, refl, IfOk, OnOk, OnErr};
 ghost use Rattle.ds_desc.specs.declared.meta.Looked.TheVariants as Looked;
-ghost use Rattle.ds_rule.specs.declared.journal.JournalStep.TheVariants.{Look, Send};
-ghost use Rattle.ds_sim.specs.State.{refused_after};
+ghost use Rattle.ds_rule.specs.declared.event.Event.TheVariants.{Write};
+ghost use Rattle.ds_rule.specs.declared.journal.JournalStep.TheVariants.{Look};
+ghost use Rattle.ds_rule.specs.Begin.{first_world, tiles};
+ghost use Rattle.ds_rule.specs.Close.{with_begin, close_status, closed};
+ghost use Rattle.ds_rule.specs.Moves.{moved};
+ghost use Rattle.ds_sim.specs.State.{refused_after, state_of};
 
 use crate::ranges::Ranges;
+use crate::records::{end_last, last_status, settle_last};
 use ds_base::{Copies, Dir, Key, Stamp, TxnNo, Value};
 use ds_desc::{Infos, Looked, Meta};
 use ds_kind::{Piece, TxnStatus};
@@ -58,21 +62,6 @@ fn look_step(alloc: Global, key: &Key, dir: Dir, infos: &Infos) -> Result<Journa
     })
 }
 
-fn send_step(
-    alloc: Global,
-    node: u8,
-    piece: &Piece,
-    answer: &Answer,
-) -> Result<JournalStep, AllocError>
-    ensures { IfOk result (λ s. s ≡ Send node piece.now answer.now) }
-{
-    Ok(JournalStep::Send {
-        node,
-        piece: piece.copy(alloc)?,
-        answer: answer.copy(alloc)?,
-    })
-}
-
 impl Sim {
     ghost use Rattle.ds_sim.specs.declared.sim.Sim.{Sim};
 
@@ -80,7 +69,7 @@ impl Sim {
     pub fn new(alloc: Global, ranges: &[ClusterRange]) -> Result<Sim, AllocError>
         requires tiled { tiles ranges.now ≡ true }
         requires few { length ranges.now < 2 ^ 32 - 1 }
-        ensures { IfOk result (λ s. s ≡ record { ranges = ranges_of 1 ranges.now; records = []; steps = []; floor = record { 0 = 0 }; count = 0; refused = 0 }) }
+        ensures { IfOk result (λ s. state_of s ≡ record { world = first_world ranges.now; past = []; floor = 0; refused = 0; lost = 0; ahead = [] }) }
     {
         Ok(Sim {
             ranges: Ranges::begin(alloc, ranges)?,
@@ -91,23 +80,7 @@ impl Sim {
             refused: 0,
         })
     }
-}
 
-/// Settles the last record, and tells the status that it ends with.
-fn settle_last(records: &mut Vec<TxnRecord>) -> TxnStatus {
-    match records.last_mut() {
-        Some(record) => match record.status {
-            RecordStatus::Committed => TxnStatus::Committed,
-            RecordStatus::Pending | RecordStatus::Aborted | RecordStatus::Staging(_) => {
-                record.status = RecordStatus::Aborted;
-                TxnStatus::Aborted
-            }
-        },
-        None => TxnStatus::Aborted,
-    }
-}
-
-impl Sim {
     /// A write of another client. Want of memory leaves all as it was.
     pub fn write(
         &mut self,
@@ -115,14 +88,21 @@ impl Sim {
         key: &Key,
         stamp: Stamp,
         value: Option<Value>,
-    ) -> Result<(), AllocError> {
+    ) -> Result<(), AllocError>
+        requires { (self.old).count < 2 ^ 64 - 1 }
+        ensures ok { OnOk result (state_of self.new ≡ record (state_of self.old) { world = moved (state_of self.old).world (Write key.now stamp value) }) }
+        ensures err { OnErr result (self.new ≡ self.old) }
+    {
         self.ranges.foreign(alloc, key, stamp, value)?;
-        self.count = self.count.saturating_add(1);
+        self.count += 1;
         Ok(())
     }
 
-    /// A transaction begins: its record is pending.
-    pub fn begin(&mut self, alloc: Global, txn: TxnNo, stamp: Stamp) -> Result<(), AllocError> {
+    /// A transaction begins: its record is pending. Want of memory leaves all as it was.
+    pub fn begin(&mut self, alloc: Global, txn: TxnNo, stamp: Stamp) -> Result<(), AllocError>
+        ensures ok { OnOk result (state_of self.new ≡ record (state_of self.old) { world = with_begin (record { number = txn.0; stamp = stamp.0; epoch = 0; last = 0 }) (state_of self.old).world }) }
+        ensures err { OnErr result (self.new ≡ self.old) }
+    {
         self.records.push(
             alloc,
             TxnRecord {
@@ -136,7 +116,7 @@ impl Sim {
 
     /// A block begins: no step stands in it yet, and its foreign writes lie above the floor.
     pub fn start_block(&mut self, alloc: Global, floor: Stamp)
-        ensures { self.new.steps ≡ [] }
+        ensures { state_of self.new ≡ record (state_of self.old) { past = []; floor = floor.0 } }
     {
         self.steps = JournalSteps::new(alloc);
         self.floor = floor;
@@ -144,18 +124,25 @@ impl Sim {
 
     /// The block's steps, in order.
     pub fn end_block(&mut self, alloc: Global) -> JournalSteps
-        ensures { result ≡ self.old.steps }
+        ensures steps { result ≡ (self.old).steps }
+        ensures state { state_of self.new ≡ record (state_of self.old) { past = [] } }
     {
         mem::replace(&mut self.steps, JournalSteps::new(alloc))
     }
 
-    /// The transaction is settled: a record that is not committed becomes aborted. The status is
-    /// the record's.
-    pub fn close(&mut self, alloc: Global) -> TxnStatus {
+    /// The open transaction, whose record is the last, ends: a record that is not committed becomes
+    /// aborted, and every intent of it is settled. The status is the one that it ends with. After want
+    /// of memory some intents may be settled.
+    pub fn close(&mut self, alloc: Global) -> Result<TxnStatus, AllocError>
+        ensures status { IfOk result (λ s. s ≡ close_status (state_of self.old).world) }
+        ensures closed { IfOk result (λ s. state_of self.new ≡ record (state_of self.old) { world = closed (state_of self.old).world }) }
+    {
+        let status = last_status(self.records.as_slice());
+        settle_last(alloc, &mut self.ranges, self.records.as_slice())?;
         let mut records = mem::replace(&mut self.records, Records::new(alloc)).into_vec();
-        let status = settle_last(&mut records);
+        end_last(&mut records);
         self.records = Records::from_vec(records);
-        status
+        Ok(status)
     }
 }
 
@@ -182,11 +169,13 @@ impl Wire for Sim {
     ghost state = { state_of };
 
     fn send(&mut self, alloc: Global, node: u8, piece: &Piece) -> Result<Answer, AllocError> {
-        let answer = self
-            .ranges
-            .deliver(alloc, self.records.as_slice(), node, piece)?;
-        let step = send_step(alloc, node, piece, &answer)?;
-        self.steps.push(alloc, step)?;
+        let answer = self.ranges.deliver(
+            alloc,
+            self.records.as_slice(),
+            node,
+            piece,
+            &mut self.steps,
+        )?;
         self.refused = refused_after(&answer, self.refused);
         Ok(answer)
     }

@@ -1,7 +1,7 @@
 use Rattle.std.proofs.Common.{◌∙◌, sym, rules, ◌≡◌}
 use Rattle.ds_kind.specs.Reach.{At}
 use Rattle.ds_kind.specs.Request.{reach_of}
-use Rattle.ds_range.proofs.Serving.{held_at}
+use Rattle.ds_range.proofs.Held.{held_at}
 use Rattle.ds_range.proofs.state.RangeState.holds_item.Goals as goal
 
 pub returns-in-Point : goal.returns-in-Point

@@ -1,0 +1,229 @@
+-- Maps of keys, changed and put back.
+use Rattle.std.proofs.Common.{◌≡◌, ℕ, Bool, true, false, cond, List, [], ◌∷◌, ◌++◌, map, Option, Some, None, refl, sym, ap, ◌∙◌, subst, Result, Ok, Err, OnOk, OnErr, append_assoc}
+use Rattle.std.specs.declared.alloc.AllocError.{AllocError}
+use Rattle.std.specs.List.{AllByRecursion}
+use Rattle.std.specs.List.Sorted.{IsStrictlySortedBy}
+use Rattle.std.specs.Map.{keys_of, lookup, remove_entry, set_value}
+use Rattle.std.specs.BTreeMap.{is_at, insert_entry}
+use Rattle.std.specs.Ordering.{is_lt, is_eq, match_ordering, ordering_reverse}
+use Rattle.std.specs.declared.cmp.Ordering.{Ordering}
+use Rattle.std.specs.declared.cmp.Ordering.TheVariants.{Less, Equal, Greater}
+use Rattle.std.proofs.lemmas.Cmp.{nat_list_cmp_total, tied_itself}
+use Rattle.std.proofs.lemmas.Map.Keys.{sorted_head, sorted_tail}
+use Rattle.std.proofs.lemmas.Map.Steps.{set_value_same}
+use Rattle.ds_base.specs.Order.{key_cmp, key_lt}
+use Rattle.ds_base.specs.Ordered.{key_eq, AllOver, Ascends, at_key}
+use Rattle.ds_base.proofs.KeyOrder.{key_lt-trans}
+use Rattle.ds_cell.specs.Content.{Content, no_content}
+use Rattle.ds_cell.specs.Ask.{Cells, key_of, content_of, content_at}
+use Rattle.ds_cell.specs.Store.{put_cell}
+use Rattle.ds_base.specs.declared.value.Stamp.{Stamp}
+use Rattle.ds_base.specs.declared.value.Value.{Value}
+use Rattle.ds_cell.specs.declared.entry.At.{At}
+use Rattle.ds_cell.specs.Change.{settled}
+use Rattle.ds_range.specs.Asks.{wrote_once, wrote_each}
+use Rattle.ds_range.specs.Keeps.{Kept, put_back, restored, kept_keys, settled_at}
+
+-- what is found at a key
+
+abbrev pub content_or : Option Content → Content
+content_or None = no_content
+content_or (Some c) = c
+
+eq_turned : (o : Ordering) → is_eq (ordering_reverse o) ≡ is_eq o
+eq_turned Less = refl
+eq_turned Equal = refl
+eq_turned Greater = refl
+
+key_eq_turned : (k q : List ℕ) → is_eq (key_cmp k q) ≡ key_eq q k
+key_eq_turned k q = ap is_eq (nat_list_cmp_total.antisymm k q) ∙ eq_turned (key_cmp q k)
+
+-- what a map has at a key is what stands there
+pub lookup_content : (k : List ℕ) (es : Cells) → content_or (lookup (is_at (key_cmp k)) es) ≡ content_at k es
+lookup_content k [] = refl
+lookup_content k (p ∷ ps) =
+    subst (λ t. content_or (cond t (Some p.1) (lookup (is_at (key_cmp k)) ps)) ≡ content_of (cond (key_eq p.0 k) (Some p) (at_key key_of k ps))) (sym (key_eq_turned k p.0))
+    (elim (key_eq p.0 k) as (λ t. content_or (cond t (Some p.1) (lookup (is_at (key_cmp k)) ps)) ≡ content_of (cond t (Some p) (at_key key_of k ps))) [
+      | true ↦ refl
+      | false ↦ lookup_content k ps
+    ])
+
+pub content_some : (k : List ℕ) (es : Cells) (c : Content) → lookup (is_at (key_cmp k)) es ≡ Some c → c ≡ content_at k es
+content_some k es c h = sym (ap content_or h) ∙ lookup_content k es
+
+pub content_none : (k : List ℕ) (es : Cells) → lookup (is_at (key_cmp k)) es ≡ None → no_content ≡ content_at k es
+content_none k es h = sym (ap content_or h) ∙ lookup_content k es
+
+-- the order of a map's keys
+
+over_of : (k : List ℕ) (es : Cells) → AllByRecursion (λ q. key_cmp k q ≡ Less) (keys_of es) → AllOver key_of k es
+over_of k [] h = tt
+over_of k (p ∷ ps) h = (ap is_lt h.0, over_of k ps h.1)
+
+pub ascends_of : (es : Cells) → IsStrictlySortedBy key_cmp (keys_of es) → Ascends key_of es
+ascends_of [] h = tt
+ascends_of (p ∷ ps) h = (over_of p.0 ps (sorted_head key_cmp p.0 (keys_of ps) h), ascends_of ps (sorted_tail key_cmp p.0 (keys_of ps) h))
+
+less_not : (o : Ordering) → is_lt o ≡ true → is_eq o ≡ false
+less_not Less h = refl
+less_not Equal h = sym h
+less_not Greater h = refl
+
+-- nothing is found below all keys
+missing : (k : List ℕ) (es : Cells) → AllOver key_of k es → lookup (is_at (key_cmp k)) es ≡ None
+missing k [] all = refl
+missing k (p ∷ ps) all = ap (λ t. cond t (Some p.1) (lookup (is_at (key_cmp k)) ps)) (less_not (key_cmp k p.0) all.0) ∙ missing k ps all.1
+
+over_less : (k q : List ℕ) (es : Cells) → key_lt k q ≡ true → AllOver key_of q es → AllOver key_of k es
+over_less k q [] low all = tt
+over_less k q (p ∷ ps) low all = (key_lt-trans k q p.0 low all.0, over_less k q ps low all.1)
+
+-- what is put in
+
+none_some : {X : Type 0} {G : Type 0} (x : X) → None ≡ Some x → G
+none_some x h = cc
+
+some_none : {X : Type 0} {G : Type 0} (x : X) → Some x ≡ None → G
+some_none x h = cc
+
+-- a key that is there takes the value where it stands
+pub put_there : (k : List ℕ) (d : Content) (es : Cells) (c : Content) → Ascends key_of es → lookup (is_at (key_cmp k)) es ≡ Some c → set_value (is_at (key_cmp k)) es d ≡ insert_entry key_cmp es k d
+put_there k d [] c asc h = none_some c h
+put_there k d (p ∷ ps) c asc h =
+    elim (key_cmp k p.0) as (λ o. key_cmp k p.0 ≡ o → cond (is_eq o) (Some p.1) (lookup (is_at (key_cmp k)) ps) ≡ Some c → cond (is_eq o) ((p.0, d) ∷ ps) (p ∷ set_value (is_at (key_cmp k)) ps d) ≡ match_ordering o ((k, d) ∷ p ∷ ps) ((p.0, d) ∷ ps) (p ∷ insert_entry key_cmp ps k d)) [
+      | Less ↦ λ e g. none_some c (sym (missing k ps (over_less k p.0 ps (ap is_lt e) asc.0)) ∙ g)
+      | Equal ↦ λ e g. refl
+      | Greater ↦ λ e g. ap (λ qs. p ∷ qs) (put_there k d ps c asc.1 g)
+    ] refl h
+
+-- a cell that is there, changed where it stands
+pub changed_there : (k : List ℕ) (f : Content → Content) (es after : Cells) (c d : Content) → Ascends key_of es → lookup (is_at (key_cmp k)) es ≡ Some c → d ≡ f c → after ≡ set_value (is_at (key_cmp k)) es d → after ≡ put_cell k f es
+changed_there k f es after c d asc there is now =
+    now ∙ put_there k d es c asc there ∙ ap (insert_entry key_cmp es k) (is ∙ ap f (content_some k es c there))
+
+-- a cell that is begun
+pub changed_new : (k : List ℕ) (f : Content → Content) (es after : Cells) (d : Content) → lookup (is_at (key_cmp k)) es ≡ None → d ≡ f no_content → after ≡ insert_entry key_cmp es k d → after ≡ put_cell k f es
+changed_new k f es after d none is now = now ∙ ap (insert_entry key_cmp es k) (is ∙ ap f (content_none k es none))
+
+-- what is put back
+
+back_begun : (k : List ℕ) (d : Content) (es : Cells) → lookup (is_at (key_cmp k)) es ≡ None → remove_entry (is_at (key_cmp k)) (insert_entry key_cmp es k d) ≡ es
+back_begun k d [] h = ap (λ t. cond (is_eq t) [] ((k, d) ∷ [])) (tied_itself nat_list_cmp_total k)
+back_begun k d (p ∷ ps) h =
+    elim (key_cmp k p.0) as (λ o. key_cmp k p.0 ≡ o → cond (is_eq o) (Some p.1) (lookup (is_at (key_cmp k)) ps) ≡ None → remove_entry (is_at (key_cmp k)) (match_ordering o ((k, d) ∷ p ∷ ps) ((p.0, d) ∷ ps) (p ∷ insert_entry key_cmp ps k d)) ≡ p ∷ ps) [
+      | Less ↦ λ e g. ap (λ t. cond (is_eq t) (p ∷ ps) ((k, d) ∷ remove_entry (is_at (key_cmp k)) (p ∷ ps))) (tied_itself nat_list_cmp_total k)
+      | Equal ↦ λ e g. some_none p.1 g
+      | Greater ↦ λ e g.
+          ap (λ o. cond (is_eq o) (insert_entry key_cmp ps k d) (p ∷ remove_entry (is_at (key_cmp k)) (insert_entry key_cmp ps k d))) e
+          ∙ ap (λ qs. p ∷ qs) (back_begun k d ps g)
+    ] refl h
+
+some_same : {X : Type 0} (x y : X) → Some x ≡ Some y → x ≡ y
+some_same x y h = cc
+
+back_there : (k : List ℕ) (c d : Content) (es : Cells) → Ascends key_of es → lookup (is_at (key_cmp k)) es ≡ Some c → set_value (is_at (key_cmp k)) (insert_entry key_cmp es k d) c ≡ es
+back_there k c d [] asc h = none_some c h
+back_there k c d (p ∷ ps) asc h =
+    elim (key_cmp k p.0) as (λ o. key_cmp k p.0 ≡ o → cond (is_eq o) (Some p.1) (lookup (is_at (key_cmp k)) ps) ≡ Some c → set_value (is_at (key_cmp k)) (match_ordering o ((k, d) ∷ p ∷ ps) ((p.0, d) ∷ ps) (p ∷ insert_entry key_cmp ps k d)) c ≡ p ∷ ps) [
+      | Less ↦ λ e g. none_some c (sym (missing k ps (over_less k p.0 ps (ap is_lt e) asc.0)) ∙ g)
+      | Equal ↦ λ e g.
+          ap (λ o. cond (is_eq o) ((p.0, c) ∷ ps) ((p.0, d) ∷ set_value (is_at (key_cmp k)) ps c)) e
+          ∙ ap (λ x. (p.0, x) ∷ ps) (sym (some_same p.1 c g))
+      | Greater ↦ λ e g.
+          ap (λ o. cond (is_eq o) ((p.0, c) ∷ insert_entry key_cmp ps k d) (p ∷ set_value (is_at (key_cmp k)) (insert_entry key_cmp ps k d) c)) e
+          ∙ ap (λ qs. p ∷ qs) (back_there k c d ps asc.1 g)
+    ] refl h
+
+back_by : (k : List ℕ) (d : Content) (es : Cells) (o : Option Content) → Ascends key_of es → lookup (is_at (key_cmp k)) es ≡ o → put_back k o (insert_entry key_cmp es k d) ≡ es
+back_by k d es None asc h = back_begun k d es h
+back_by k d es (Some c) asc h = back_there k c d es asc h
+
+-- what was kept of a key, put back after its cell was changed
+pub back_changed : (k : List ℕ) (f : Content → Content) (es : Cells) → Ascends key_of es → put_back k (lookup (is_at (key_cmp k)) es) (put_cell k f es) ≡ es
+back_changed k f es asc = back_by k (f (content_at k es)) es (lookup (is_at (key_cmp k)) es) asc refl
+
+removed_none : (k : List ℕ) (es : Cells) → lookup (is_at (key_cmp k)) es ≡ None → remove_entry (is_at (key_cmp k)) es ≡ es
+removed_none k [] h = refl
+removed_none k (p ∷ ps) h =
+    elim (is_eq (key_cmp k p.0)) as (λ t. cond t (Some p.1) (lookup (is_at (key_cmp k)) ps) ≡ None → cond t ps (p ∷ remove_entry (is_at (key_cmp k)) ps) ≡ p ∷ ps) [
+      | true ↦ λ g. some_none p.1 g
+      | false ↦ λ g. ap (λ qs. p ∷ qs) (removed_none k ps g)
+    ] h
+
+back_same_by : (k : List ℕ) (es : Cells) (o : Option Content) → lookup (is_at (key_cmp k)) es ≡ o → put_back k o es ≡ es
+back_same_by k es None h = removed_none k es h
+back_same_by k es (Some c) h = set_value_same (is_at (key_cmp k)) es c h
+
+-- and where it wasn't changed
+pub back_same : (k : List ℕ) (es : Cells) → put_back k (lookup (is_at (key_cmp k)) es) es ≡ es
+back_same k es = back_same_by k es (lookup (is_at (key_cmp k)) es) refl
+
+restored-last : (us : List Kept) (u : Kept) (es : Cells) → restored (us ++ u ∷ []) es ≡ restored us (put_back u.0 u.1 es)
+restored-last [] u es = refl
+restored-last (v ∷ us) u es = ap (put_back v.0 v.1) (restored-last us u es)
+
+-- the last kept goes back first
+pub back_last : (us vs : List Kept) (u : Kept) (es : Cells) → vs ≡ us ++ u ∷ [] → restored vs es ≡ restored us (put_back u.0 u.1 es)
+back_last us vs u es is = ap (λ zs. restored zs es) is ∙ restored-last us u es
+
+pub kept_changed : (us vs : List Kept) (k : List ℕ) (f : Content → Content) (old new : Cells) → vs ≡ us ++ (k, lookup (is_at (key_cmp k)) old) ∷ [] → Ascends key_of old → new ≡ put_cell k f old → restored vs new ≡ restored us old
+kept_changed us vs k f old new more asc now =
+    back_last us vs (k, lookup (is_at (key_cmp k)) old) new more
+    ∙ ap (λ es. restored us (put_back k (lookup (is_at (key_cmp k)) old) es)) now ∙ ap (restored us) (back_changed k f old asc)
+
+pub kept_same : (us vs : List Kept) (k : List ℕ) (old new : Cells) → vs ≡ us ++ (k, lookup (is_at (key_cmp k)) old) ∷ [] → new ≡ old → restored vs new ≡ restored us old
+kept_same us vs k old new more now =
+    back_last us vs (k, lookup (is_at (key_cmp k)) old) new more
+    ∙ ap (λ es. restored us (put_back k (lookup (is_at (key_cmp k)) old) es)) now ∙ ap (restored us) (back_same k old)
+
+map_last : {X Y : Type 0} (f : X → Y) (xs : List X) (x : X) → map f (xs ++ x ∷ []) ≡ map f xs ++ f x ∷ []
+map_last f [] x = refl
+map_last f (y ∷ ys) x = ap (λ zs. f y ∷ zs) (map_last f ys x)
+
+pub keys_more : (us vs : List Kept) (u : Kept) → vs ≡ us ++ u ∷ [] → kept_keys vs ≡ kept_keys us ++ u.0 ∷ []
+keys_more us vs u is = ap kept_keys is ∙ map_last (λ p. p.0) us u
+
+-- changes that may want memory
+
+pub changed_ok : (k : List ℕ) (f : Content → Content) (es after : Cells) (c d : Content) → {U : Type 0} → (r : Result U AllocError) → Ascends key_of es → lookup (is_at (key_cmp k)) es ≡ Some c → OnOk r (d ≡ f c) → after ≡ set_value (is_at (key_cmp k)) es d → OnOk r (after ≡ put_cell k f es)
+changed_ok k f es after c d (Ok u) asc there is now = changed_there k f es after c d asc there is now
+changed_ok k f es after c d (Err e) asc there is now = tt
+
+pub changed_err : (k : List ℕ) (es after : Cells) (c d : Content) → {U : Type 0} → (r : Result U AllocError) → lookup (is_at (key_cmp k)) es ≡ Some c → OnErr r (d ≡ c) → after ≡ set_value (is_at (key_cmp k)) es d → OnErr r (after ≡ es)
+changed_err k es after c d (Ok u) there is now = tt
+changed_err k es after c d (Err e) there is now = now ∙ ap (set_value (is_at (key_cmp k)) es) is ∙ set_value_same (is_at (key_cmp k)) es c there
+
+pub kept_either : (us vs : List Kept) (k : List ℕ) (f : Content → Content) (old new : Cells) → {U : Type 0} → (r : Result U AllocError) → vs ≡ us ++ (k, lookup (is_at (key_cmp k)) old) ∷ [] → Ascends key_of old → OnOk r (new ≡ put_cell k f old) → OnErr r (new ≡ old) → restored vs new ≡ restored us old
+kept_either us vs k f old new (Ok u) more asc ok err = kept_changed us vs k f old new more asc ok
+kept_either us vs k f old new (Err e) more asc ok err = kept_same us vs k old new more err
+
+pub keys_either : (us vs : List Kept) (u : Kept) → {U : Type 0} → (r : Result U AllocError) → vs ≡ us ++ u ∷ [] → OnOk r (kept_keys vs ≡ kept_keys us ++ u.0 ∷ [])
+keys_either us vs u (Ok x) is = keys_more us vs u is
+keys_either us vs u (Err e) is = tt
+
+-- nothing to put back where nothing stands
+pub set_missing : (k : List ℕ) (d : Content) (es : Cells) → lookup (is_at (key_cmp k)) es ≡ None → es ≡ set_value (is_at (key_cmp k)) es d
+set_missing k d [] h = refl
+set_missing k d (p ∷ ps) h =
+    elim (is_eq (key_cmp k p.0)) as (λ t. cond t (Some p.1) (lookup (is_at (key_cmp k)) ps) ≡ None → p ∷ ps ≡ cond t ((p.0, d) ∷ ps) (p ∷ set_value (is_at (key_cmp k)) ps d)) [
+      | true ↦ λ g. some_none p.1 g
+      | false ↦ λ g. ap (λ qs. p ∷ qs) (set_missing k d ps g)
+    ] h
+
+-- one more put back
+pub put_more : (us vs : List Kept) (u : Kept) (now after all : Cells) → restored vs now ≡ all → vs ≡ us ++ u ∷ [] → after ≡ put_back u.0 u.1 now → restored us after ≡ all
+put_more us vs u now after all inv is back = ap (restored us) back ∙ sym (back_last us vs u now is) ∙ inv
+
+pub wrote_last : (at : At) (ws : List (List ℕ × Option Value)) (w : List ℕ × Option Value) (old now next : Cells) → now ≡ wrote_each at ws old → next ≡ put_cell w.0 (wrote_once at w.1) now → next ≡ wrote_each at (ws ++ w ∷ []) old
+wrote_last at [] w old now next so_far more = more ∙ ap (put_cell w.0 (wrote_once at w.1)) so_far
+wrote_last at (v ∷ ws) w old now next so_far more = wrote_last at ws w _ now next so_far more
+
+pub settled_last : (txn : ℕ) (commit : Option Stamp) (ks : List (List ℕ)) (k : List ℕ) (old now next : Cells) → now ≡ settled_at txn commit ks old → next ≡ put_cell k (settled txn commit) now → next ≡ settled_at txn commit (ks ++ k ∷ []) old
+settled_last txn commit [] k old now next so_far more = more ∙ ap (put_cell k (settled txn commit)) so_far
+settled_last txn commit (q ∷ ks) k old now next so_far more = settled_last txn commit ks k _ now next so_far more
+
+-- the keys of one write more
+pub keys_of_last : (us vs ps : List Kept) (ws : List (List ℕ × Option Value)) (w : List ℕ × Option Value) → kept_keys us ≡ kept_keys ps ++ map (λ p. p.0) ws → kept_keys vs ≡ kept_keys us ++ w.0 ∷ [] → kept_keys vs ≡ kept_keys ps ++ map (λ p. p.0) (ws ++ w ∷ [])
+keys_of_last us vs ps ws w so_far more =
+    more ∙ ap (λ ks. ks ++ w.0 ∷ []) so_far ∙ append_assoc (kept_keys ps) (map (λ p. p.0) ws) (w.0 ∷ [])
+    ∙ ap (λ ks. kept_keys ps ++ ks) (sym (map_last (λ p. p.0) ws w))
