@@ -1,5 +1,10 @@
 -- The scripts that are built so far.
-use Rattle.std.specs.Prelude.{◌≡◌, ℕ, Bool, true, false, ◌&&◌, List, [], ◌∷◌, length, nat_le, Option, Some, None, if◌then◌else◌, ◌==◌, refl}
+use Rattle.std.specs.Prelude.{◌≡◌, ℕ, Bool, true, false, ◌&&◌, List, [], ◌∷◌, length, nat_le, nat_lt, Option, Some, None, is_some, if◌then◌else◌, ◌==◌, refl}
+use Rattle.std.specs.List.{list_all}
+use Rattle.ds_base.specs.Order.{key_lt, bound}
+use Rattle.ds_base.specs.declared.value.Stamp.{Stamp}
+use Rattle.ds_kind.specs.declared.batch.Batch.{Batch}
+use Rattle.ds_kind.specs.declared.request.Request.{Request}
 use Rattle.ds_rule.specs.declared.event.Block.{Block}
 use Rattle.ds_rule.specs.declared.cluster.ClusterRange.{ClusterRange}
 use Rattle.ds_rule.specs.Begin.{tiles}
@@ -8,60 +13,59 @@ use Rattle.ds_script.specs.declared.line.Line.TheVariants as Line
 use Rattle.ds_script.specs.declared.line.Numbered.{Numbered}
 use Rattle.ds_send.specs.Batch as Sends
 
--- how far a script has come: nothing, a cluster, an open transaction, its batch, its close
+-- how far a script has come: nothing yet, no transaction is open, or one at this stamp
 pub data Stage : Type 0 where
   Start : Stage
-  Ready : Stage
-  Begun : Stage
-  Asked : Stage
-  Ended : Stage
+  Closed : Stage
+  Open : ℕ → Stage
 
 -- at most 1,024 ranges, which tile the keys
 abbrev pub is_cluster : List ClusterRange → Bool
 is_cluster rs = tiles rs && nat_le (length rs) 1024
 
--- nothing happens beside the batch
+-- nothing happens beside the batch, and no piece is picked
 abbrev pub is_quiet : Block → Bool
 is_quiet b = (length b.events == 0) && (length b.picks == 0)
 
--- the line that may come next, and how far the script has come then
+-- beside an open transaction a batch is its own, or reads below its stamp
+abbrev pub may_stand_by : ℕ → Option Stamp → List Request → Bool
+may_stand_by open None rs = true
+may_stand_by open (Some s) rs = nat_lt s.0 open && list_all Sends.is_plain_read rs
+
+-- a batch of a form that is built
+abbrev pub is_sent : Batch → Block → Bool
+is_sent b block = Sends.is_built b && is_quiet block
+
+-- how far the script has come after a line, if the line is of a form that is built
 abbrev pub next_stage : Stage → Line → Option Stage
-next_stage Start (Line.Cluster c) = if is_cluster c.ranges then Some Ready else None
+next_stage Start (Line.Cluster c) = if is_cluster c.ranges then Some Closed else None
 next_stage Start l = None
-next_stage Ready (Line.Write k s v) = Some Ready
-next_stage Ready (Line.Begin s k) = Some Begun
-next_stage Ready l = None
-next_stage Begun (Line.Batch b block) = if Sends.is_built b && is_quiet block then Some Asked else None
-next_stage Begun l = None
-next_stage Asked Line.Close = Some Ended
-next_stage Asked l = None
-next_stage Ended l = None
+next_stage Closed (Line.Write k s v) = if key_lt k bound then Some Closed else None
+next_stage Closed (Line.Begin s k) = Some (Open s.0)
+next_stage Closed (Line.Batch b block) = if is_some b.at && is_sent b block then Some Closed else None
+next_stage Closed l = None
+next_stage (Open t) (Line.Write k s v) = if key_lt k bound && nat_lt t s.0 then Some (Open t) else None
+next_stage (Open t) (Line.Batch b block) = if may_stand_by t b.at b.requests && is_sent b block then Some (Open t) else None
+next_stage (Open t) Line.Close = Some Closed
+next_stage (Open t) l = None
 
-abbrev pub has_ended : Stage → Bool
-has_ended Start = false
-has_ended Ready = false
-has_ended Begun = false
-has_ended Asked = false
-has_ended Ended = true
+abbrev pub goes_on : Option Stage → ℕ → (Stage → Option ℕ) → Option ℕ
+goes_on None n more = Some n
+goes_on (Some s) n more = more s
 
-abbrev pub goes_on : Option Stage → (Stage → Bool) → Bool
-goes_on None more = false
-goes_on (Some s) more = more s
+-- the number of the first line of a form that isn't built
+abbrev pub unbuilt_from : List Numbered → Stage → Option ℕ
+unbuilt_from [] s = None
+unbuilt_from (l ∷ ls) s = goes_on (next_stage s l.line) l.number (unbuilt_from ls)
 
--- the lines lead from here to the end
-abbrev pub leads : List Numbered → Stage → Bool
-leads [] s = has_ended s
-leads (l ∷ ls) s = goes_on (next_stage s l.line) (leads ls)
+abbrev pub first_unbuilt : List Numbered → Option ℕ
+first_unbuilt lines = unbuilt_from lines Start
 
--- a cluster, writes, one begin, one batch of the transaction that is one scan, and a close
-abbrev pub is_built : List Numbered → Bool
-is_built lines = leads lines Start
+an_abort_is_not_built : first_unbuilt (record { number = 3; line = Line.Abort } ∷ []) ≡ Some 3
+an_abort_is_not_built = refl
 
-nothing_is_not_built : is_built [] ≡ false
-nothing_is_not_built = refl
+a_begin_opens : next_stage Closed (Line.Begin (record { 0 = 5 }) []) ≡ Some (Open 5)
+a_begin_opens = refl
 
-a_close_ends : next_stage Asked Line.Close ≡ Some Ended
-a_close_ends = refl
-
-no_close_at_first : next_stage Start Line.Close ≡ None
-no_close_at_first = refl
+no_second_begin : next_stage (Open 5) (Line.Begin (record { 0 = 6 }) []) ≡ None
+no_second_begin = refl

@@ -1,2 +1,5 @@
+pub mod Asked
 pub mod Built
+pub mod Forms
 pub mod Stages
+pub mod Taken

@@ -1,7 +1,11 @@
-//! Whole scripts, line by line: the cluster, the writes, and a transaction with its batch.
+//! Whole scripts, line by line.
 #![tactic(auto)]
 
-pub mod script;
+mod asking;
+mod built;
+
+
 mod state;
 
-pub use script::replay;
+pub use built::first_unbuilt;
+

@@ -44,6 +44,13 @@ fn all_built(at: Option<Stamp>, requests: &[Request]) -> bool
         .all(|request| is_built_request(at, request))
 }
 
+/// Whether each is a get or a scan that goes forward.
+pub fn all_plain_reads(requests: &[Request]) -> bool
+    ensures { result ≡ list_all is_plain_read requests.now }
+{
+    requests.iter().all(is_plain_read)
+}
+
 /// Whether the batch is of a form that is built: no limit; in a transaction gets and forward scans,
 /// with a stamp writes of values too.
 pub fn is_built(batch: &Batch) -> bool

@@ -1,0 +1,117 @@
+//! Which scripts are built so far.
+ghost use Rattle.std.specs.Prelude.{◌≡◌, option_map};
+ghost use Rattle.std.specs.List.{list_all};
+ghost use Rattle.ds_base.specs.Order.{key_lt, bound};
+ghost use Rattle.ds_send.specs.Batch as Sends;
+ghost use Rattle.ds_replay.specs.Built.{Stage, Start, Closed, Open, next_stage, is_cluster, is_quiet, may_stand_by, is_sent, first_unbuilt};
+ghost use Rattle.ds_replay.specs.Forms.{form_stage};
+
+use ds_base::Stamp;
+use ds_kind::{Batch, Request};
+use ds_rule::{Block, ClusterRange};
+use ds_script::{Line, Script};
+use ds_send::batch::{all_plain_reads, is_built};
+use ds_sim::tiles;
+
+/// How far a script has come, as far as its form goes.
+#[derive(Clone, Copy, Debug, PartialEq, Eq)]
+enum Form {
+    Start,
+    Closed,
+    Open(Stamp),
+}
+
+fn is_cluster(ranges: &[ClusterRange]) -> bool
+    ensures { result ≡ is_cluster ranges.now }
+{
+    tiles(ranges) && ranges.len() <= 1024
+}
+
+fn is_quiet(block: &Block) -> bool
+    ensures { result ≡ is_quiet block.now }
+{
+    block.events.len() == 0 && block.picks.len() == 0
+}
+
+fn may_stand_by(open: Stamp, at: Option<Stamp>, requests: &[Request]) -> bool
+    ensures { result ≡ may_stand_by open.0 at requests.now }
+{
+    match at {
+        None => true,
+        Some(at) => at < open && all_plain_reads(requests),
+    }
+}
+
+fn is_sent(batch: &Batch, block: &Block) -> bool
+    ensures { result ≡ is_sent batch.now block.now }
+{
+    is_built(batch) && is_quiet(block)
+}
+
+fn only_if(holds: bool, form: Form) -> Option<Form>
+    ensures { result ≡ (if holds then Some form else None) }
+{
+    if holds { Some(form) } else { None }
+}
+
+fn after_start(line: &Line) -> Option<Form>
+    ensures { option_map form_stage result ≡ next_stage Start line.now }
+{
+    match line {
+        Line::Cluster(cluster) => only_if(is_cluster(cluster.ranges.as_slice()), Form::Closed),
+        _ => None,
+    }
+}
+
+fn after_closed(line: &Line) -> Option<Form>
+    ensures { option_map form_stage result ≡ next_stage Closed line.now }
+{
+    match line {
+        Line::Write { key, .. } => only_if(key.is_below_bound(), Form::Closed),
+        Line::Begin { stamp, .. } => Some(Form::Open(*stamp)),
+        Line::Batch { batch, block } => {
+            only_if(batch.at.is_some() && is_sent(batch, block), Form::Closed)
+        }
+        _ => None,
+    }
+}
+
+fn after_open(open: Stamp, line: &Line) -> Option<Form>
+    ensures { option_map form_stage result ≡ next_stage (Open open.0) line.now }
+{
+    match line {
+        Line::Write { key, stamp, .. } => {
+            only_if(key.is_below_bound() && open < *stamp, Form::Open(open))
+        }
+        Line::Batch { batch, block } => only_if(
+            may_stand_by(open, batch.at, batch.requests.as_slice()) && is_sent(batch, block),
+            Form::Open(open),
+        ),
+        Line::Close => Some(Form::Closed),
+        _ => None,
+    }
+}
+
+fn next_form(form: Form, line: &Line) -> Option<Form>
+    ensures { option_map form_stage result ≡ next_stage (form_stage form) line.now }
+{
+    match form {
+        Form::Start => after_start(line),
+        Form::Closed => after_closed(line),
+        Form::Open(open) => after_open(open, line),
+    }
+}
+
+/// The number of the script's first line of a form that isn't built yet; none where all are built.
+pub fn first_unbuilt(script: &Script) -> Option<u32>
+    ensures { result ≡ first_unbuilt script.now.lines }
+{
+    let mut form = Form::Start;
+    'lines: for numbered in script.lines.as_slice() {
+        form = match next_form(form, &numbered.line) {
+            Some(next) => next,
+            None => return Some(numbered.number),
+        };
+    }
+    None
+}
