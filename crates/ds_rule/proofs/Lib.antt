@@ -19,6 +19,7 @@ pub mod Standing
 pub mod Tiling
 pub mod Trips
 pub mod Truth
+pub mod WholeGathered
 pub mod WholeLaw
 pub mod Writes
 pub mod Writing
