@@ -1,5 +1,5 @@
 -- A batch that only reads, of a pending transaction, never fails by its record where nothing happens beside its steps.
-use Rattle.std.proofs.Common.{◌≡◌, ℕ, ◌==◌, true, List, [], ◌∷◌, ◌++◌, Option, Some, None, refl, sym, ap, ◌∙◌, subst}
+use Rattle.std.proofs.Common.{◌≡◌, ◌==◌, true, List, [], ◌∷◌, Option, Some, None, refl, sym, ap, ◌∙◌, subst}
 use Rattle.std.specs.List.{find}
 use Rattle.ds_base.specs.declared.value.TxnNo.{TxnNo}
 use Rattle.ds_kind.specs.declared.batch.Batch.{Batch}

@@ -1,5 +1,5 @@
 -- What a batch that was served in one piece gathers.
-use Rattle.std.proofs.Common.{◌≡◌, ℕ, ◌<◌, Bool, true, false, cond, ◌&&◌, ◌==◌, List, [], ◌∷◌, ◌++◌, Option, Some, None, refl, sym, ap, ◌∙◌, subst, append_assoc, eq-eqb, ne_eqb, arith}
+use Rattle.std.proofs.Common.{◌≡◌, ℕ, ◌<◌, true, cond, List, [], ◌∷◌, ◌++◌, None, refl, sym, ap, ◌∙◌, subst, append_assoc, eq-eqb, ne_eqb, arith}
 use Rattle.std.specs.List.{list_all}
 use Rattle.ds_base.specs.Order.{key_lt}
 use Rattle.ds_base.proofs.KeyOrder.{below-after, and_first, and_second}
@@ -29,7 +29,7 @@ use Rattle.ds_rule.specs.Pieces.{Each, position_of}
 use Rattle.ds_rule.proofs.Failing.{runs-cut, each-right}
 use Rattle.ds_rule.proofs.Gathering.{IsBelowPosition, at-append, at-none, join-nothing}
 use Rattle.ds_rule.proofs.Routes.{append-nil}
-use Rattle.ds_rule.proofs.Service.{Service, service}
+use Rattle.ds_rule.proofs.Service.{service}
 use Rattle.ds_rule.proofs.Trips.{accepted-append, each-append}
 
 -- one reply for each request, of its kind and whole
