@@ -80,7 +80,7 @@ reads-fail w node p f read h = by (why w node p f h)
 
 -- no record has the number 0
 
-none-named : (ts : List TxnRecord) → AllAbove record_number 0 ts → find (λ t. t.txn.0 == 0) ts ≡ None
+pub none-named : (ts : List TxnRecord) → AllAbove record_number 0 ts → find (λ t. t.txn.0 == 0) ts ≡ None
 none-named [] all = refl
 none-named (t ∷ ts) all =
     ap (λ b. cond b (Some t) (find (λ t. t.txn.0 == 0) ts)) (ne_eqb (record_number t) 0 (λ e. let low : 0 < record_number t = all.0 in omega (arith, e, low)))

@@ -80,7 +80,7 @@ join-is (ResolveIntentRange a) xs ys = record { bits = xs; is = refl }
 join-is (AdminSplit a) xs ys = record { bits = xs; is = refl }
 join-is (AdminTransferLease a) xs ys = record { bits = xs; is = refl }
 
-join-nothing : (r : Request) (xs : Bits) → join_bodies (goes_down r) (body_of r xs) (body_of r []) ≡ body_of r xs
+pub join-nothing : (r : Request) (xs : Bits) → join_bodies (goes_down r) (body_of r xs) (body_of r []) ≡ body_of r xs
 join-nothing (Get a) xs = refl
 join-nothing (Scan a) xs = ap Body.Rows (append-nil _)
 join-nothing (ReverseScan a) xs = refl
@@ -197,7 +197,7 @@ joins-sorted i s e (a ∷ more) body j = ap (put_by_start a) (joins-sorted i j.0
 
 -- requests one after another
 
-at-append : (n : ℕ) (xs ys : List Accepted) → at_position n (xs ++ ys) ≡ at_position n xs ++ at_position n ys
+pub at-append : (n : ℕ) (xs ys : List Accepted) → at_position n (xs ++ ys) ≡ at_position n xs ++ at_position n ys
 at-append n [] ys = refl
 at-append n (x ∷ xs) ys =
     elim (is_at n x) as (λ t. cond t (x ∷ at_position n (xs ++ ys)) (at_position n (xs ++ ys)) ≡ cond t (x ∷ at_position n xs) (at_position n xs) ++ at_position n ys) [
@@ -212,7 +212,7 @@ at-all n (x ∷ xs) all = ap (λ t. cond t (x ∷ at_position n xs) (at_position
 abbrev pub IsBelowPosition : ℕ → Accepted → Type 0
 IsBelowPosition n a = a.item.pos < n
 
-at-none : (n : ℕ) (xs : List Accepted) → Each (IsBelowPosition n) xs → at_position n xs ≡ []
+pub at-none : (n : ℕ) (xs : List Accepted) → Each (IsBelowPosition n) xs → at_position n xs ≡ []
 at-none n [] all = refl
 at-none n (x ∷ xs) all =
     ap (λ t. cond t (x ∷ at_position n xs) (at_position n xs)) (ne_eqb x.item.pos n (λ e. let low : x.item.pos < n = all.0 in omega (arith, e, low)))

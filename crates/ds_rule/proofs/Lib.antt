@@ -5,6 +5,7 @@ pub mod Failing
 pub mod Gathering
 pub mod Joining
 pub mod Kept
+pub mod NeverDoubtful
 pub mod Puts
 pub mod Quiet
 pub mod ReadLaw
@@ -19,6 +20,7 @@ pub mod Standing
 pub mod Tiling
 pub mod Trips
 pub mod Truth
+pub mod WholeGathered
 pub mod WholeLaw
 pub mod Writes
 pub mod Writing

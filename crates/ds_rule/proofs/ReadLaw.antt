@@ -92,7 +92,7 @@ stands-like w p o l st = record {
   begun = st.begun;
 }
 
-like-itself : (o : Option StoreTxn) → Like o o
+pub like-itself : (o : Option StoreTxn) → Like o o
 like-itself None = tt
 like-itself (Some t) = record { number = refl; stamp = refl; epoch = refl; fate = refl; known = λ k. k }
 
@@ -179,7 +179,7 @@ like-pends (Some n) (Some t) (Some u) l h = ap is_pending (sym l.fate) ∙ h
 
 -- the way begins
 
-way-known : (a : Stands) (p : Store) (batch : Batch) (q : Asking) (o : Option StoreTxn) → Like p.txn o → (Knows q.head.txn p.txn → Knows q.head.txn o) → Ready a p batch q → OnWay q.head a.floor a.world (record p { txn = o }) p
+pub way-known : (a : Stands) (p : Store) (batch : Batch) (q : Asking) (o : Option StoreTxn) → Like p.txn o → (Knows q.head.txn p.txn → Knows q.head.txn o) → Ready a p batch q → OnWay q.head a.floor a.world (record p { txn = o }) p
 way-known a p batch q o l k r = record {
   stands = stands-like a.world p o l r.stands;
   rising = r.stands.rising;
@@ -205,7 +205,7 @@ way-doubt a p batch q o l r = record {
   open_low = subst (λ s. s ≤ a.floor) (like-stamp p.txn o l) r.open_floor;
 }
 
-each-read : (items : List Item) → Each IsProperRead items → Each IsRead items
+pub each-read : (items : List Item) → Each IsProperRead items → Each IsRead items
 each-read [] all = tt
 each-read (i ∷ is) all = (all.0.read, each-read is all.1)
 
@@ -300,7 +300,7 @@ stamped-head s t b q h = sym (ap txn_in h)
     txn_in None = None
     txn_in (Some z) = z.head.txn
 
-no-failure : (f : Failure) → None ≡ Some f → ⊥
+pub no-failure : (f : Failure) → None ≡ Some f → ⊥
 no-failure f h = cc
 
 never-committed : (a b : Stands) (p : Store) (batch : Batch) (q : Asking) (got : List Accepted) (f : Failure) → IsReading batch q → (path : Path q a b got) → Ready a p batch q → q.head.txn ≡ None → LastFails f path.added → ⊥
