@@ -7,6 +7,7 @@ use ds_desc::{Info, Lease, Looked, Nodes, RangeDesc, Refusal};
 use ds_kind::kinds::{EndTxnArgs, GetArgs, ScanArgs};
 use ds_kind::{Body, Failure, Flight, Head, Illegal, Item, Piece, Reply, Request, Row, TxnStatus};
 use ds_rule::{Answer, Entry, JournalStep, Outcome};
+use ds_script::{FaultKind, ScriptFault};
 use std::alloc::Global;
 use std::test::Fail;
 
@@ -251,10 +252,19 @@ fn a_log(rt: HostRuntime) -> Result<(), Fail> {
 }
 
 #[test]
-fn a_fault(rt: HostRuntime) -> Result<(), Fail> {
-    let alloc = rt.alloc();
-    let printed = fault_text(alloc, "json", 4)?;
-    assert!(rt; printed.as_str() == "{\"fault\":\"json\",\"line\":4}\n");
+fn every_fault(rt: HostRuntime) -> Result<(), Fail> {
+    for (kind, want) in [
+        (FaultKind::TooLong, "{\"fault\":\"too_long\",\"line\":4}\n"),
+        (FaultKind::Json, "{\"fault\":\"json\",\"line\":4}\n"),
+        (FaultKind::Shape, "{\"fault\":\"shape\",\"line\":4}\n"),
+        (FaultKind::Range, "{\"fault\":\"range\",\"line\":4}\n"),
+        (FaultKind::Order, "{\"fault\":\"order\",\"line\":4}\n"),
+        (FaultKind::LowWrite, "{\"fault\":\"low_write\",\"line\":4}\n"),
+        (FaultKind::TxnOpen, "{\"fault\":\"txn_open\",\"line\":4}\n"),
+    ] {
+        let printed = fault_text(rt.alloc(), &ScriptFault::Bad { line: 4, kind })?;
+        assert!(rt; printed.as_str() == want, "{want}");
+    }
     Ok(())
 }
 
