@@ -2,7 +2,8 @@
 use crate::{check, numbers, parts};
 use ds_base::{Key, Seq, Stamp, Value};
 use ds_kind::kinds::{
-    AdminSplitArgs, DeleteRangeArgs, EndTxnArgs, GetArgs, PutArgs, QueryIntentArgs, ReverseScanArgs, ScanArgs,
+    AdminSplitArgs, DeleteRangeArgs, EndTxnArgs, GetArgs, PutArgs, QueryIntentArgs,
+    ReverseScanArgs, ScanArgs,
 };
 use ds_kind::{Batch, Flights, Illegal, Request, Requests};
 use std::alloc::Global;
@@ -91,7 +92,11 @@ fn spans_and_places(rt: HostRuntime) -> Result<(), Fail> {
             Illegal::BadSpan { i: 1 },
         ),
         (
-            &[(Op::Get, b"a", b""), (Op::Scan, b"c", b"b"), (Op::Back, b"b", b"b")],
+            &[
+                (Op::Get, b"a", b""),
+                (Op::Scan, b"c", b"b"),
+                (Op::Back, b"b", b"b"),
+            ],
             Illegal::BadSpan { i: 1 },
         ),
         (&[(Op::Query, b"a", b"")], Illegal::NeedsTxn { i: 0 }),
@@ -197,11 +202,43 @@ fn lengths(alloc: Global, asks: &[Ask<'_>], split_end: bool) -> Result<Vec<usize
 #[test]
 fn lengths_of_parts(rt: HostRuntime) -> Result<(), Fail> {
     let asks: [(&[Ask<'_>], bool, &[usize]); 7] = [
-        (&[(Op::Get, b"a", b""), (Op::Scan, b"a", b"b"), (Op::Query, b"a", b"")], false, &[3]),
-        (&[(Op::Get, b"a", b""), (Op::Put, b"a", b""), (Op::Put, b"b", b"")], false, &[1, 2]),
-        (&[(Op::Scan, b"a", b"b"), (Op::Back, b"a", b"b")], false, &[1, 1]),
-        (&[(Op::Get, b"a", b""), (Op::Split, b"m", b""), (Op::Get, b"b", b"")], false, &[1, 1, 1]),
-        (&[(Op::Split, b"m", b""), (Op::End, b"a", b"")], false, &[1, 1]),
+        (
+            &[
+                (Op::Get, b"a", b""),
+                (Op::Scan, b"a", b"b"),
+                (Op::Query, b"a", b""),
+            ],
+            false,
+            &[3],
+        ),
+        (
+            &[
+                (Op::Get, b"a", b""),
+                (Op::Put, b"a", b""),
+                (Op::Put, b"b", b""),
+            ],
+            false,
+            &[1, 2],
+        ),
+        (
+            &[(Op::Scan, b"a", b"b"), (Op::Back, b"a", b"b")],
+            false,
+            &[1, 1],
+        ),
+        (
+            &[
+                (Op::Get, b"a", b""),
+                (Op::Split, b"m", b""),
+                (Op::Get, b"b", b""),
+            ],
+            false,
+            &[1, 1, 1],
+        ),
+        (
+            &[(Op::Split, b"m", b""), (Op::End, b"a", b"")],
+            false,
+            &[1, 1],
+        ),
         (&[(Op::Get, b"a", b""), (Op::End, b"a", b"")], false, &[2]),
         (&[(Op::Put, b"a", b""), (Op::End, b"a", b"")], true, &[1, 1]),
     ];
