@@ -259,7 +259,10 @@ fn every_fault(rt: HostRuntime) -> Result<(), Fail> {
         (FaultKind::Shape, "{\"fault\":\"shape\",\"line\":4}\n"),
         (FaultKind::Range, "{\"fault\":\"range\",\"line\":4}\n"),
         (FaultKind::Order, "{\"fault\":\"order\",\"line\":4}\n"),
-        (FaultKind::LowWrite, "{\"fault\":\"low_write\",\"line\":4}\n"),
+        (
+            FaultKind::LowWrite,
+            "{\"fault\":\"low_write\",\"line\":4}\n",
+        ),
         (FaultKind::TxnOpen, "{\"fault\":\"txn_open\",\"line\":4}\n"),
     ] {
         let printed = fault_text(rt.alloc(), &ScriptFault::Bad { line: 4, kind })?;
