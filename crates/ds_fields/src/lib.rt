@@ -11,6 +11,8 @@ pub mod lists;
 pub mod members;
 pub mod parts;
 pub mod scalars;
+#[cfg(test)]
+mod tests;
 
 pub use fault::{FaultKind, LineFault};
 pub use lists::{Reader, list_of, nodes_of, small_list_of};

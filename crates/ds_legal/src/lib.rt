@@ -13,5 +13,6 @@ mod rules;
 mod tests;
 
 pub use counting::numbers;
+pub use ds_kind::Illegal;
 pub use grouping::parts;
 pub use legal::{Legal, check};

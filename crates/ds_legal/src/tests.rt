@@ -2,7 +2,8 @@
 use crate::{check, numbers, parts};
 use ds_base::{Key, Seq, Stamp, Value};
 use ds_kind::kinds::{
-    DeleteRangeArgs, EndTxnArgs, GetArgs, PutArgs, QueryIntentArgs, ReverseScanArgs, ScanArgs,
+    AdminSplitArgs, DeleteRangeArgs, EndTxnArgs, GetArgs, PutArgs, QueryIntentArgs,
+    ReverseScanArgs, ScanArgs,
 };
 use ds_kind::{Batch, Flights, Illegal, Request, Requests};
 use std::alloc::Global;
@@ -16,6 +17,7 @@ enum Op {
     Back,
     Delete,
     Query,
+    Split,
     End,
 }
 
@@ -40,6 +42,7 @@ fn request(op: Op, start: Key, end: Key, alloc: Global) -> Request {
             key: start,
             seq: Seq(1),
         }),
+        Op::Split => Request::AdminSplit(AdminSplitArgs { key: start }),
         Op::End => Request::EndTxn(EndTxnArgs {
             key: start,
             commit: true,
@@ -80,12 +83,20 @@ fn fault(
 fn spans_and_places(rt: HostRuntime) -> Result<(), Fail> {
     let alloc = rt.alloc();
     let at = Some(Stamp(5));
-    let asks: [(&[Ask<'_>], Illegal); 5] = [
+    let asks: [(&[Ask<'_>], Illegal); 6] = [
         (&[], Illegal::Empty),
         (&[(Op::Scan, b"b", b"b")], Illegal::BadSpan { i: 0 }),
         (&[(Op::Get, &[97; 65], b"")], Illegal::BadSpan { i: 0 }),
         (
             &[(Op::Get, &[97; 64], b""), (Op::Get, &[255, 255], b"")],
+            Illegal::BadSpan { i: 1 },
+        ),
+        (
+            &[
+                (Op::Get, b"a", b""),
+                (Op::Scan, b"c", b"b"),
+                (Op::Back, b"b", b"b"),
+            ],
             Illegal::BadSpan { i: 1 },
         ),
         (&[(Op::Query, b"a", b"")], Illegal::NeedsTxn { i: 0 }),
@@ -136,6 +147,8 @@ fn at_most_256_requests(rt: HostRuntime) -> Result<(), Fail> {
     let get: Ask<'_> = (Op::Get, b"a", b"");
     assert!(rt; fault(alloc, None, true, None, &[get; 256])?.is_none());
     assert!(rt; fault(alloc, None, true, None, &[get; 257])? == Some(Illegal::TooMany));
+    let bad: Ask<'_> = (Op::Scan, b"a", b"a");
+    assert!(rt; fault(alloc, None, true, None, &[bad; 257])? == Some(Illegal::TooMany));
     Ok(())
 }
 
@@ -166,5 +179,71 @@ fn numbers_and_parts(rt: HostRuntime) -> Result<(), Fail> {
     assert!(rt; seqs.as_slice() == [Seq(4), Seq(5), Seq(5)].as_slice());
     assert_eq!(rt; parts(alloc, &legal, &seqs, false)?.len(), 2);
     assert_eq!(rt; parts(alloc, &legal, &seqs, true)?.len(), 3);
+    Ok(())
+}
+
+/// How many requests each part of the transaction's batch has.
+fn lengths(alloc: Global, asks: &[Ask<'_>], split_end: bool) -> Result<Vec<usize>, Fail> {
+    let batch = Batch {
+        at: None,
+        consistent: true,
+        limit: None,
+        requests: requests(alloc, asks)?,
+    };
+    let legal = check(&batch).map_err(|_| "a legal batch")?;
+    let seqs = numbers(alloc, &legal, Seq(0))?;
+    let mut lengths = Vec::new(alloc);
+    for part in parts(alloc, &legal, &seqs, split_end)?.as_slice() {
+        lengths.push(part.items.len())?;
+    }
+    Ok(lengths)
+}
+
+#[test]
+fn lengths_of_parts(rt: HostRuntime) -> Result<(), Fail> {
+    let asks: [(&[Ask<'_>], bool, &[usize]); 7] = [
+        (
+            &[
+                (Op::Get, b"a", b""),
+                (Op::Scan, b"a", b"b"),
+                (Op::Query, b"a", b""),
+            ],
+            false,
+            &[3],
+        ),
+        (
+            &[
+                (Op::Get, b"a", b""),
+                (Op::Put, b"a", b""),
+                (Op::Put, b"b", b""),
+            ],
+            false,
+            &[1, 2],
+        ),
+        (
+            &[(Op::Scan, b"a", b"b"), (Op::Back, b"a", b"b")],
+            false,
+            &[1, 1],
+        ),
+        (
+            &[
+                (Op::Get, b"a", b""),
+                (Op::Split, b"m", b""),
+                (Op::Get, b"b", b""),
+            ],
+            false,
+            &[1, 1, 1],
+        ),
+        (
+            &[(Op::Split, b"m", b""), (Op::End, b"a", b"")],
+            false,
+            &[1, 1],
+        ),
+        (&[(Op::Get, b"a", b""), (Op::End, b"a", b"")], false, &[2]),
+        (&[(Op::Put, b"a", b""), (Op::End, b"a", b"")], true, &[1, 1]),
+    ];
+    for (asks, split_end, want) in asks {
+        assert!(rt; lengths(rt.alloc(), asks, split_end)?.as_slice() == want);
+    }
     Ok(())
 }

@@ -10,6 +10,8 @@ pub mod every;
 pub mod fault;
 pub mod form;
 pub mod happening;
+#[cfg(test)]
+mod limit_tests;
 pub mod limits;
 pub mod line;
 #[cfg(test)]

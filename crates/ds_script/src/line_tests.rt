@@ -1,11 +1,11 @@
-//! Lines of every form, and lines at both sides of each limit. The cluster has three nodes.
+//! Lines of every form, and lines of none. The cluster has three nodes.
 use crate::{FaultKind, Line, LineFault, read_line};
 use ds_kind::Request;
 use std::alloc::{AllocError, Global};
 use std::test::Fail;
 
 /// What is wrong with the line.
-fn fault_of(alloc: Global, line: &str) -> Result<Option<FaultKind>, AllocError> {
+pub fn fault_of(alloc: Global, line: &str) -> Result<Option<FaultKind>, AllocError> {
     match read_line(alloc, line.as_bytes(), 3) {
         Ok(_) => Ok(None),
         Err(LineFault::Bad(kind)) => Ok(Some(kind)),
@@ -14,7 +14,7 @@ fn fault_of(alloc: Global, line: &str) -> Result<Option<FaultKind>, AllocError> 
 }
 
 /// What is wrong with the line of a front, a part that stands so many times, and a back.
-fn fault_of_long(
+pub fn fault_of_long(
     alloc: Global,
     front: &str,
     part: &str,
@@ -125,7 +125,14 @@ fn no_json(rt: HostRuntime) -> Result<(), Fail> {
         "\u{feff}{\"op\":\"close\"}",
         "{\"op\":\"close\"}\0",
         r#"{"op":"arrive","copy":1e999}"#,
+        r#"{"op":"arrive","copy":01}"#,
         r#"{"op":"close"} {"op":"close"}"#,
+        r#"{"op":"split","key":"\ud800"}"#,
+        r#"{"op":"split","key":"\ud800a"}"#,
+        r#"{"op":"split","key":"\udc00"}"#,
+        "{\"op\":\"split\",\"key\":\"\0\"}",
+        r#"{"op":"batch","txn":true,"requests":[{"get":"a"},]}"#,
+        "{'op':'close'}",
     ] {
         assert_eq!(rt;
             fault_of(rt.alloc(), line)?,
@@ -158,6 +165,7 @@ fn another_shape(rt: HostRuntime) -> Result<(), Fail> {
         r#"{"op":"split"}"#,
         r#"{"op":"split","key":null}"#,
         r#"{"op":"split","key":"Ā"}"#,
+        r#"{"op":"split","key":"\ud83d\ude00"}"#,
         r#"{"op":"arrive","copy":1.0}"#,
         r#"{"op":"arrive","copy":-0}"#,
         r#"{"op":"arrive","copy":1e2}"#,
@@ -294,30 +302,6 @@ fn clusters_in_and_out_of_range(rt: HostRuntime) -> Result<(), Fail> {
         ),
     ] {
         assert_eq!(rt; fault_of(rt.alloc(), line)?, want, "{line}");
-    }
-    Ok(())
-}
-
-#[test]
-fn long_lines(rt: HostRuntime) -> Result<(), Fail> {
-    let key = r#"{"op":"split","key":""#;
-    let value = r#"{"op":"write","key":"a","stamp":1000000000,"value":""#;
-    let requests = r#"{"op":"batch","stamp":1,"requests":[{"get":"a"}"#;
-    let picks = r#"{"op":"batch","stamp":1,"requests":[],"picks":[0"#;
-    let events = r#"{"op":"batch","stamp":1,"requests":[],"events":[{"op":"abort","at":1}"#;
-    for (front, part, most, back) in [
-        (key, "a", 64, "\"}"),
-        (key, "\u{0}", 0, "\"}"),
-        (value, "x", 256, "\"}"),
-        (value, "é", 128, "\"}"),
-        (requests, r#",{"get":"a"}"#, 999, "]}"),
-        (picks, ",1", 999, "]}"),
-        (events, r#",{"op":"abort","at":1}"#, 999, "]}"),
-    ] {
-        let at_most = fault_of_long(rt.alloc(), front, part, most, back)?;
-        assert_eq!(rt; at_most, None, "{front}");
-        let above = fault_of_long(rt.alloc(), front, part, most + 1, back)?;
-        assert!(rt; above.is_some(), "{front}");
     }
     Ok(())
 }

@@ -179,6 +179,133 @@ fn writes_above_the_floor(rt: HostRuntime) -> Result<(), Fail> {
 }
 
 #[test]
+fn writes_above_a_batch(rt: HostRuntime) -> Result<(), Fail> {
+    let write = r#"{"op":"write","at":1,"key":"a","value":1,"stamp":"#;
+    for (lines, stamp, want) in [
+        (
+            "\n{\"op\":\"batch\",\"stamp\":5,\"requests\":[],\"events\":[",
+            "5",
+            Some((2, FaultKind::LowWrite)),
+        ),
+        (
+            "\n{\"op\":\"batch\",\"stamp\":5,\"requests\":[],\"events\":[",
+            "6",
+            None,
+        ),
+        (
+            "\n{\"op\":\"begin\",\"stamp\":10,\"key\":\"a\"}\n{\"op\":\"batch\",\"stamp\":5,\"requests\":[],\"events\":[",
+            "10",
+            Some((3, FaultKind::LowWrite)),
+        ),
+        (
+            "\n{\"op\":\"begin\",\"stamp\":10,\"key\":\"a\"}\n{\"op\":\"batch\",\"stamp\":5,\"requests\":[],\"events\":[",
+            "11",
+            Some((2, FaultKind::TxnOpen)),
+        ),
+        (
+            "\n{\"op\":\"begin\",\"stamp\":10,\"key\":\"a\"}\n{\"op\":\"batch\",\"stamp\":20,\"requests\":[],\"events\":[",
+            "20",
+            Some((3, FaultKind::LowWrite)),
+        ),
+    ] {
+        let line = format!(in rt.alloc(); "{lines}{write}{stamp}}}]}}")?;
+        assert_eq!(rt;
+            fault_after(rt.alloc(), line.as_str(), "", 0)?,
+            want,
+            "{line}"
+        );
+    }
+    let old =
+        "\n{\"op\":\"batch\",\"stamp\":9,\"requests\":[]}\n{\"op\":\"write\",\"key\":\"a\",\"stamp\":1,\"value\":1}";
+    assert_eq!(rt; fault_after(rt.alloc(), old, "", 0)?, None);
+    Ok(())
+}
+
+#[test]
+fn requests_beside_a_transaction(rt: HostRuntime) -> Result<(), Fail> {
+    for (stamp, request, want) in [
+        ("9", r#"{"get":"a"}"#, None),
+        ("9", r#"{"scan":["a","b"]}"#, None),
+        ("9", r#"{"reverse_scan":["a","b"]}"#, None),
+        ("10", r#"{"get":"a"}"#, Some((3, FaultKind::Order))),
+        ("10", r#"{"scan":["a","b"]}"#, Some((3, FaultKind::Order))),
+        (
+            "10",
+            r#"{"reverse_scan":["a","b"]}"#,
+            Some((3, FaultKind::Order)),
+        ),
+        ("1", r#"{"put":["a",1]}"#, Some((3, FaultKind::Order))),
+        (
+            "1",
+            r#"{"delete_range":["a","b"]}"#,
+            Some((3, FaultKind::Order)),
+        ),
+        (
+            "1",
+            r#"{"end":{"commit":false}}"#,
+            Some((3, FaultKind::Order)),
+        ),
+        (
+            "1",
+            r#"{"query_intent":["a",1]}"#,
+            Some((3, FaultKind::Order)),
+        ),
+        (
+            "1000000000",
+            r#"{"resolve":["a",1]},{"resolve_range":["a","b",1]}"#,
+            None,
+        ),
+        (
+            "1000000000",
+            r#"{"admin_split":"a"},{"admin_lease":["a",1]}"#,
+            None,
+        ),
+    ] {
+        let begin = "\n{\"op\":\"begin\",\"stamp\":10,\"key\":\"a\"}\n";
+        let batch = format!(in rt.alloc();
+            "{begin}{{\"op\":\"batch\",\"stamp\":{stamp},\"requests\":[{request}]}}\n"
+        )?;
+        let fault = fault_after(rt.alloc(), batch.as_str(), "{\"op\":\"close\"}", 1)?;
+        assert_eq!(rt; fault, want, "{batch}");
+    }
+    Ok(())
+}
+
+#[test]
+fn the_first_kind_of_a_line_counts(rt: HostRuntime) -> Result<(), Fail> {
+    for (line, kind) in [
+        (
+            r#"{"op":"batch","stamp":0,"requests":[],"events":[{"op":"abort","at":1}]}"#,
+            FaultKind::Range,
+        ),
+        (
+            r#"{"op":"batch","stamp":5,"requests":[],"events":[{"op":"write","at":1,"key":"a","stamp":5,"value":1},{"op":"abort","at":1}]}"#,
+            FaultKind::Order,
+        ),
+        (
+            r#"{"op":"batch","stamp":5,"requests":[],"events":[{"op":"write","at":1,"key":"a","stamp":5,"value":1},{"op":"copy","at":1,"copy":1},{"op":"copy","at":2,"copy":1}]}"#,
+            FaultKind::Order,
+        ),
+        (
+            r#"{"op":"batch","stamp":5,"requests":[],"events":[{"op":"write","at":1,"key":"a","stamp":5,"value":1},{"op":"copy","at":1,"copy":1}]}"#,
+            FaultKind::LowWrite,
+        ),
+        (
+            r#"{"op":"cluster","nodes":1,"ranges":[{"start":"","nodes":[2],"lease":2}]}"#,
+            FaultKind::Range,
+        ),
+        (
+            r#"{"op":"cluster","nodes":9,"ranges":[{"start":"","nodes":[9],"lease":9}]}"#,
+            FaultKind::Order,
+        ),
+    ] {
+        let fault = fault_after(rt.alloc(), "\n", line, 1)?;
+        assert_eq!(rt; fault, Some((2, kind)), "{line}");
+    }
+    Ok(())
+}
+
+#[test]
 fn scripts_at_their_greatest_length(rt: HostRuntime) -> Result<(), Fail> {
     let room = 4_194_304 - 76;
     for (part, times, want) in [

@@ -4,12 +4,14 @@ ghost use Rattle.std.specs.Str.Lines.{lines};
 ghost use Rattle.serde_json.specs.Read.{read, max_depth};
 ghost use Rattle.serde_json.specs.View.{view};
 ghost use Rattle.ds_text.specs.Log.{text_of, log_objects, has_texts, entry_has_text, objects_of, steps_objects, line_text};
+ghost use Rattle.ds_text.specs.Faults.{kind_text, names_line, fault_data};
 ghost use Rattle.ds_text.specs.Lines.{fault_line};
 ghost use Rattle.ds_text.specs.Prints.{Prints, Plain};
 
 use crate::lines::{answer_object, closed_object, fault_object, restarted_object, step_json};
 use ds_base::Text;
 use ds_rule::{Entry, JournalStep, RunLog};
+use ds_script::{FaultKind, ScriptFault};
 use serde_json::Value as Json;
 use std::alloc::{AllocError, Global};
 
@@ -29,8 +31,37 @@ pub fn text(alloc: Global, log: &RunLog) -> Result<Text, AllocError>
     Ok(Text::from_string(out))
 }
 
-/// The text of a fault: its kind, and the line of the script. The one refusal is want of memory.
-pub fn fault_text(alloc: Global, kind: &str, line: u32) -> Result<Text, AllocError>
+/// The text of a fault: its kind, and the line of the script. The fault may not be want of memory,
+/// which has no text. Read again, the line gives its object. The one refusal is want of memory for
+/// the text.
+pub fn fault_text(alloc: Global, fault: &ScriptFault) -> Result<Text, AllocError>
+    requires { names_line fault.now ≡ true }
+    ensures text { IfOk result (λ t. t ≡ line_text (fault_data fault.now)) }
+    ensures reads_back { IfOk result (λ t. map read (lines t) ≡ Some (fault_data fault.now) ∷ []) }
+{
+    match fault {
+        ScriptFault::Bad { line, kind } => named_fault(alloc, kind_name(*kind), *line),
+        ScriptFault::Memory(_) => unreachable!(),
+    }
+}
+
+/// The name of a kind of fault.
+fn kind_name(kind: FaultKind) -> &'static str
+    ensures { result.now ≡ kind_text kind }
+{
+    match kind {
+        FaultKind::TooLong => "too_long",
+        FaultKind::Json => "json",
+        FaultKind::Shape => "shape",
+        FaultKind::Range => "range",
+        FaultKind::Order => "order",
+        FaultKind::LowWrite => "low_write",
+        FaultKind::TxnOpen => "txn_open",
+    }
+}
+
+/// The text of a fault of this kind.
+fn named_fault(alloc: Global, kind: &str, line: u32) -> Result<Text, AllocError>
     ensures text { IfOk result (λ t. t ≡ line_text (fault_line kind.now line)) }
     ensures reads_back { IfOk result (λ t. map read (lines t) ≡ Some (fault_line kind.now line) ∷ []) }
 {

@@ -3,7 +3,7 @@ use Rattle.std.specs.Str.Lines.{lines}
 use Rattle.serde_json.specs.Read.{read}
 use Rattle.ds_text.specs.Lines.{fault_line}
 use Rattle.ds_text.proofs.Printing.{prints_from_new, one_text, prints_read}
-use Rattle.ds_text.proofs.printed.fault_text.Goals as goal
+use Rattle.ds_text.proofs.printed.named_fault.Goals as goal
 
 pub returns : goal.returns
 returns c =
