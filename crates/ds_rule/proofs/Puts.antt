@@ -1,17 +1,17 @@
 -- Changing one key's content, in one range and in all contents.
-use Rattle.std.proofs.Common.{◌≡◌, ℕ, Bool, true, false, cond, not, ◌&&◌, List, [], ◌∷◌, ◌++◌, Option, Some, None, refl, sym, ap, ◌∙◌, subst}
+use Rattle.std.proofs.Common.{◌≡◌, ℕ, true, false, cond, ◌&&◌, List, [], ◌∷◌, ◌++◌, Some, None, refl, sym, ap, ◌∙◌, subst}
 use Rattle.std.specs.Ordering.{is_lt, is_eq, match_ordering, ordering_reverse}
 use Rattle.std.specs.declared.cmp.Ordering.{Ordering}
 use Rattle.std.specs.declared.cmp.Ordering.TheVariants.{Less, Equal, Greater}
 use Rattle.std.specs.BTreeMap.{insert_entry}
 use Rattle.std.proofs.lemmas.Cmp.{nat_list_cmp_total}
-use Rattle.ds_base.specs.Order.{key_cmp, key_lt, key_le, holds, bound}
+use Rattle.ds_base.specs.Order.{key_cmp, key_lt, key_le, bound}
 use Rattle.ds_base.specs.Ordered.{key_eq, AllOver, AllBelow, Ascends, at_key}
-use Rattle.ds_base.proofs.OrderedFacts.{le_of_not_lt, eq_same, eq_itself, at-none, gt_not_eq, lt_not_eq, lt_le_trans, not_lt_of_le}
+use Rattle.ds_base.proofs.OrderedFacts.{le_of_not_lt, eq_same, at-none, gt_not_eq, lt_not_eq, not_lt_of_le}
 use Rattle.ds_cell.specs.Content.{Content}
-use Rattle.ds_cell.specs.Ask.{Cell, Cells, key_of, content_of, content_at}
+use Rattle.ds_cell.specs.Ask.{Cells, key_of, content_of, content_at}
 use Rattle.ds_cell.specs.Store.{put_cell}
-use Rattle.ds_rule.specs.World.{Range, start_of, end_of, contents, Fits, Tiles}
+use Rattle.ds_rule.specs.World.{Range, start_of, end_of, contents, Tiles}
 use Rattle.ds_rule.specs.Deliver.{replaced}
 use Rattle.ds_rule.specs.Moves.{holds_key}
 use Rattle.ds_rule.proofs.Routes.{inside-below, contents-from, over-of-from, le_itself}
@@ -96,13 +96,13 @@ equal_same k q h = eq_same k q (ap is_eq h)
 
 -- what stands at each key after one was changed
 pub insert-at : (k q : List ℕ) (c : Content) (cells : Cells) → Ascends key_of cells → content_at q (insert_entry key_cmp cells k c) ≡ cond (key_eq k q) c (content_at q cells)
-insert-at k q c [] asc = elim (key_eq k q) as (λ t. content_of (cond t (Some (k, c)) None) ≡ cond t c (content_at q [])) [ | true ↦ refl | false ↦ refl ]
+insert-at k q c [] asc = elim (key_eq k q) as (λ t. content_of (cond t (Some (k, c)) None) ≡ cond t c (content_at q [])) [ true ↦ refl | false ↦ refl ]
 insert-at k q c (p ∷ ps) asc =
     elim (key_cmp k p.0) as (λ o. key_cmp k p.0 ≡ o → content_at q (match_ordering o ((k, c) ∷ p ∷ ps) ((p.0, c) ∷ ps) (p ∷ insert_entry key_cmp ps k c)) ≡ cond (key_eq k q) c (content_at q (p ∷ ps))) [
-      | Less ↦ λ h. elim (key_eq k q) as (λ t. content_of (cond t (Some (k, c)) (at_key key_of q (p ∷ ps))) ≡ cond t c (content_at q (p ∷ ps))) [ | true ↦ refl | false ↦ refl ]
+      | Less ↦ λ h. elim (key_eq k q) as (λ t. content_of (cond t (Some (k, c)) (at_key key_of q (p ∷ ps))) ≡ cond t c (content_at q (p ∷ ps))) [ true ↦ refl | false ↦ refl ]
       | Equal ↦ λ h.
           subst (λ z. content_of (cond (key_eq p.0 q) (Some (p.0, c)) (at_key key_of q ps)) ≡ cond (key_eq z q) c (content_of (cond (key_eq p.0 q) (Some p) (at_key key_of q ps)))) (sym (equal_same k p.0 h))
-          (elim (key_eq p.0 q) as (λ t. content_of (cond t (Some (p.0, c)) (at_key key_of q ps)) ≡ cond t c (content_of (cond t (Some p) (at_key key_of q ps)))) [ | true ↦ refl | false ↦ refl ])
+          (elim (key_eq p.0 q) as (λ t. content_of (cond t (Some (p.0, c)) (at_key key_of q ps)) ≡ cond t c (content_of (cond t (Some p) (at_key key_of q ps)))) [ true ↦ refl | false ↦ refl ])
       | Greater ↦ λ h.
           elim (key_eq p.0 q) as (λ t. key_eq p.0 q ≡ t → content_of (cond t (Some p) (at_key key_of q (insert_entry key_cmp ps k c))) ≡ cond (key_eq k q) c (content_of (cond t (Some p) (at_key key_of q ps)))) [
             | true ↦ λ e. ap (λ t. cond t c p.1) (sym (subst (λ z. key_eq k z ≡ false) (eq_same p.0 q e) (gt_not_eq p.0 k (below k p.0 h))))

@@ -1,25 +1,24 @@
 -- What happens beside the sender keeps the world standing for its store.
-use Rattle.std.proofs.Common.{◌≡◌, ℕ, ◌<◌, ◌≤◌, Bool, true, false, cond, ◌+◌, List, [], ◌∷◌, ◌++◌, Option, Some, None, inl, inr, refl, sym, ap, ◌∙◌, subst, fold, arith}
+use Rattle.std.proofs.Common.{◌≡◌, ℕ, ◌<◌, ◌≤◌, Bool, true, false, cond, ◌+◌, List, [], ◌∷◌, ◌++◌, Option, Some, None, refl, sym, ap, ◌∙◌, subst, fold, arith}
 use Rattle.std.specs.Option.{option_or, option_map}
 use Rattle.ds_base.specs.Order.{key_lt, key_le, bound}
-use Rattle.ds_base.specs.Ordered.{key_eq, Ascends}
+use Rattle.ds_base.specs.Ordered.{key_eq}
 use Rattle.ds_cell.specs.declared.entry.Version.{Version}
 use Rattle.ds_cell.specs.declared.entry.Written.{Written}
 use Rattle.ds_cell.specs.Content.{Content, AllAbove, stamp_of}
 use Rattle.ds_cell.specs.Seen.{last_of}
 use Rattle.ds_cell.specs.Change.{made, foreign_by, after_foreign}
-use Rattle.ds_cell.specs.Ask.{Cells, key_of, content_at}
+use Rattle.ds_cell.specs.Ask.{content_at}
 use Rattle.ds_cell.specs.Store.{Store, StoreTxn, Mode, Live, FailedSince, Unknown, OverWith, Fate, Pending, Committed, Aborted, put_cell, with_version}
 use Rattle.ds_cell.proofs.LatestFacts.{last_where-cons}
 use Rattle.ds_rule.specs.declared.event.Event.{Event}
-use Rattle.ds_rule.specs.declared.event.Event.TheVariants as Event
 use Rattle.ds_rule.specs.declared.record.TxnRecord.{TxnRecord}
 use Rattle.ds_rule.specs.Clauses.{IsAbove}
 use Rattle.ds_rule.specs.Deliver.{replaced}
 use Rattle.ds_rule.specs.Moves.{holds_key, moved, with_last, with_last_after, aborted}
 use Rattle.ds_rule.specs.Plain.{after_event, abort_txn, aborted_by}
 use Rattle.ds_rule.specs.StandsFor.{IsAt, open_stamp, IsIntentOf, HasRecord, HasRecordOf, record_for, StandsFor}
-use Rattle.ds_rule.specs.World.{World, Range, contents, cell_of, Tiles}
+use Rattle.ds_rule.specs.World.{World, contents, cell_of}
 use Rattle.ds_rule.proofs.Puts.{contents-put, put-at}
 use Rattle.ds_rule.proofs.Routes.{contents-ascend}
 use Rattle.ds_rule.proofs.Tiling.{tiles-put, ascends-insert}
@@ -93,9 +92,9 @@ stands-write w p k v key high st =
       tiled = tiles-put k (after_foreign v) [] w.ranges st.tiled;
       rising = ascends-insert k _ p.cells st.rising;
       same = λ q.
-        subst (λ c. IsAt (open_stamp p.txn) c (content_at q (put_cell k (with_version v) p.cells))) (sym (world-at all q))
-        (subst (IsAt (open_stamp p.txn) _) (sym (put-at k q (with_version v) p.cells st.rising))
-        (at-put (open_stamp p.txn) v (key_eq k q) (cell_of w k) (cell_of w q) (content_at k p.cells) (content_at q p.cells) high (st.same k) (st.same q)));
+          subst (λ c. IsAt (open_stamp p.txn) c (content_at q (put_cell k (with_version v) p.cells))) (sym (world-at all q))
+          (subst (IsAt (open_stamp p.txn) _) (sym (put-at k q (with_version v) p.cells st.rising))
+          (at-put (open_stamp p.txn) v (key_eq k q) (cell_of w k) (cell_of w q) (content_at k p.cells) (content_at q p.cells) high (st.same k) (st.same q)));
       intents = λ q. subst (IsIntentOf p.txn) (sym (world-at all q)) (intent-put p.txn v (key_eq k q) (cell_of w k) (cell_of w q) (st.intents k) (st.intents q));
       recorded = st.recorded;
     }

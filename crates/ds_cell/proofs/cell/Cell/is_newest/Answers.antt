@@ -1,5 +1,4 @@
 use Rattle.std.proofs.Common.{rules, ◌≡◌, ◌<◌, Some, None, subst, sym, ltb-true}
-use Rattle.ds_cell.specs.Content.{Rises, stamp_of}
 use Rattle.ds_cell.specs.Seen.{last_of}
 use Rattle.ds_cell.proofs.NewestFacts.{EndsBelow, newest_made}
 use Rattle.ds_cell.proofs.cell.Cell.is_newest.Goals as goal
