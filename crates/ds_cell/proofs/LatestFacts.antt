@@ -13,7 +13,7 @@ use Rattle.ds_cell.specs.declared.entry.Version.{Version}
 use Rattle.ds_cell.specs.Content.{Content, AllAbove, Rises, IsContent, stamp_of, seq_of}
 use Rattle.ds_cell.specs.Seen.{last_where, last_of, held, own, newest, version_at, raised, stamp_from, newest_from, IsLatest, IsNewestFrom}
 
-none_in : {X : Type 0} {G : Type 0} (x : X) → Contains [] x → G
+pub none_in : {X : Type 0} {G : Type 0} (x : X) → Contains [] x → G
 none_in x h = let low : h.0 < 0 = h.1 in absurd (omega arith)
 
 one_in : {X : Type 0} (y x : X) → Contains (y ∷ []) x → y ≡ x
@@ -28,10 +28,10 @@ cons_cases y ys x h = elim (Contains-append_cases (y ∷ []) ys x h) [
   | inr rest ↦ inr rest
 ]
 
-in_first : {X : Type 0} (y : X) (ys : List X) → Contains (y ∷ ys) y
+pub in_first : {X : Type 0} (y : X) (ys : List X) → Contains (y ∷ ys) y
 in_first y ys = Contains-append_left (y ∷ []) ys y (Contains-push [] y)
 
-in_rest : {X : Type 0} (y : X) (ys : List X) (x : X) → Contains ys x → Contains (y ∷ ys) x
+pub in_rest : {X : Type 0} (y : X) (ys : List X) (x : X) → Contains ys x → Contains (y ∷ ys) x
 in_rest y ys x h = Contains-append_right (y ∷ []) ys x h
 
 above_all : {X : Type 0} (f : X → ℕ) (m : ℕ) (xs : List X) (x : X) → AllAbove f m xs → Contains xs x → m < f x
@@ -93,7 +93,7 @@ latest_version s c is = latest stamp_of s c.versions is.stamps_rise
 
 -- the last of rising versions has the greatest stamp
 
-abbrev IsLast : List Version → Option Version → Type 0
+abbrev pub IsLast : List Version → Option Version → Type 0
 IsLast vs None = (v : Version) → Contains vs v → ⊥
 IsLast vs (Some w) = Contains vs w × ((v : Version) → Contains vs v → v.stamp.0 ≤ w.stamp.0)
 
@@ -113,7 +113,7 @@ last_more v vs above None is = (
   ],
 )
 
-last_is : (vs : List Version) → Rises stamp_of vs → IsLast vs (last_of vs)
+pub last_is : (vs : List Version) → Rises stamp_of vs → IsLast vs (last_of vs)
 last_is [] r = λ v h. none_in v h
 last_is (v ∷ vs) r = subst (IsLast (v ∷ vs)) (sym (last_where-cons (λ _. true) v vs)) (last_more v vs r.0 _ (last_is vs r.1))
 

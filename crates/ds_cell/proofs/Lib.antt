@@ -3,6 +3,7 @@ pub mod Examples
 pub mod Histories
 pub mod LaterFacts
 pub mod LatestFacts
+pub mod NewestFacts
 pub mod ReplyFacts
 pub mod RequestLaws
 pub mod RisingFacts

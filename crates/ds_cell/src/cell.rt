@@ -1,9 +1,9 @@
 //! The content of one key.
-ghost use Rattle.std.specs.Prelude.{◌≡◌, ◌≤◌, ◌++◌, OnOk, IfOk, OnErr, Some, None, length, slice_get, MatchOption, is_some, if◌then◌else◌};
+ghost use Rattle.std.specs.Prelude.{◌≡◌, ◌≤◌, ◌∷◌, [], ◌++◌, true, OnOk, IfOk, OnErr, Some, None, length, slice_get, MatchOption, is_some, if◌then◌else◌};
 ghost use Rattle.std.specs.Option.{option_copied};
 ghost use Rattle.ds_cell.specs.Content.{no_content, IsContent, stamp_of, seq_of};
 ghost use Rattle.ds_cell.specs.Seen.{own, held, seen, newest, version_at, under, too_old, newest_from, IsLatest, IsNewestFrom};
-ghost use Rattle.ds_cell.specs.Change.{wrote, after_foreign, settled};
+ghost use Rattle.ds_cell.specs.Change.{wrote, made, after_foreign, settled};
 
 use crate::entry::{At, Version, Written};
 use crate::lists;
@@ -163,6 +163,29 @@ impl Cell {
         Ok(())
     }
 
+    // Whether a version at the stamp would come last.
+    fn is_newest(&self, stamp: Stamp) -> bool
+        ensures { result ≡ true → (v : Version) → v.stamp ≡ stamp → made (self.now).versions v ≡ (self.now).versions ++ v ∷ [] }
+    {
+        match lists::last_version(self.versions.as_slice()) {
+            Some(last) => last.stamp.0 < stamp.0,
+            None => true,
+        }
+    }
+
+    // Makes a version, unless one stands at its stamp. One that comes last is made without a look at
+    // the others.
+    fn make(&mut self, version: Version) -> Result<(), AllocError>
+        ensures ok { OnOk result (self.new ≡ record (self.old) { versions = made (self.old).versions version }) }
+        ensures err { OnErr result (self.new ≡ self.old) }
+    {
+        if self.is_newest(version.stamp) {
+            self.versions.push(version)?;
+            return Ok(());
+        }
+        lists::make(&mut self.versions, version)
+    }
+
     /// A write of another client: a version at its stamp, unless one stands there. Where an intent
     /// stands on the key it waits. Want of memory leaves the cell as it was.
     pub fn foreign(
@@ -175,7 +198,7 @@ impl Cell {
         ensures err { OnErr result (self.new ≡ self.old) }
     {
         match lists::last_write(self.history.as_slice()) {
-            None => lists::make(&mut self.versions, Version { stamp, value })?,
+            None => self.make(Version { stamp, value })?,
             Some(_) => self.waiting.push(Version { stamp, value })?,
         }
         Ok(())

@@ -37,7 +37,7 @@ pub(crate) fn version_at(versions: &[Version], stamp: Stamp) -> Option<&Version>
     versions.iter().rev().find(|v| v.stamp.0 <= stamp.0)
 }
 
-fn last_version(versions: &[Version]) -> Option<&Version>
+pub(crate) fn last_version(versions: &[Version]) -> Option<&Version>
     ensures { option_copied result ≡ last_of versions.now }
 {
     versions.iter().rev().find(|_| true)

@@ -1,11 +1,10 @@
 -- The writes of one request go under a number that is free at each of their keys, and to different keys.
-use Rattle.std.proofs.Common.{◌≡◌, ℕ, Bool, true, false, cond, List, [], ◌∷◌, ◌++◌, Option, Some, None, is_some, refl, sym, ap, ◌∙◌, subst}
+use Rattle.std.proofs.Common.{◌≡◌, ℕ, Bool, true, false, cond, List, [], ◌∷◌, Option, Some, None, is_some, refl, sym, ap, ◌∙◌, subst}
 use Rattle.std.specs.BTreeMap.{insert_entry}
-use Rattle.std.specs.Ordering.{is_eq, match_ordering}
-use Rattle.std.specs.declared.cmp.Ordering.{Ordering}
+use Rattle.std.specs.Ordering.{match_ordering}
 use Rattle.std.specs.declared.cmp.Ordering.TheVariants.{Less, Equal, Greater}
 use Rattle.std.specs.FinMap.{nat_cmp-IsAntisymmetric, slice_cmp-IsAntisymmetric}
-use Rattle.ds_base.specs.Order.{key_cmp, key_lt, holds}
+use Rattle.ds_base.specs.Order.{key_cmp, holds}
 use Rattle.ds_base.specs.Ordered.{key_eq, AllOver, Ascends, at_key, between}
 use Rattle.ds_base.specs.declared.value.Stamp.{Stamp}
 use Rattle.ds_base.specs.declared.value.Value.{Value}
@@ -17,18 +16,17 @@ use Rattle.ds_kind.specs.declared.request.Request.TheVariants.{Get, Scan, Revers
 use Rattle.ds_cell.specs.declared.entry.At.{At}
 use Rattle.ds_cell.specs.declared.entry.Written.{Written}
 use Rattle.ds_cell.specs.declared.verdict.Verdict.{Verdict}
-use Rattle.ds_cell.specs.declared.verdict.Verdict.TheVariants.{Keep, Put as Write, Refuse}
+use Rattle.ds_cell.specs.declared.verdict.Verdict.TheVariants.{Keep, Put as Write}
 use Rattle.ds_cell.specs.declared.verdict.Bit.{Bit}
-use Rattle.ds_cell.specs.declared.verdict.Bit.TheVariants.{Nothing}
 use Rattle.ds_cell.specs.Content.{Content}
 use Rattle.ds_cell.specs.Seen.{under, own, too_old}
 use Rattle.ds_cell.specs.Change.{wrote}
 use Rattle.ds_cell.specs.Deed.{Sight, sight, look_of, deed, decide, guarded}
-use Rattle.ds_cell.specs.Ask.{Cells, key_of, content_of, content_at, Asked, Failed, Gave, one_more, ask_each, places, ask_at}
-use Rattle.ds_cell.specs.Kinds.{judge_nothing, judge_read, judge_query, judge_put, judge_conditional, judge_init, judge_increment, judge_delete, judge_delete_range, nothing, shown, gone}
+use Rattle.ds_cell.specs.Ask.{Cells, key_of, content_of, content_at, Gave, ask_each, ask_at}
+use Rattle.ds_cell.specs.Kinds.{judge_put, judge_conditional, judge_init, judge_increment, judge_delete, judge_delete_range, nothing, shown, gone}
 use Rattle.ds_cell.specs.LawProofs.{guarded-keep}
 use Rattle.ds_cell.specs.Requests.{deed_of, ask_request}
-use Rattle.ds_cell.specs.Store.{put_cell, write_all}
+use Rattle.ds_cell.specs.Store.{write_all}
 use Rattle.ds_rule.proofs.Writes.{Puts, more_puts, no_puts}
 use Rattle.ds_range.specs.Asks.{wrote_once, wrote_each}
 

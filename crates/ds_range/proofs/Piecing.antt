@@ -1,5 +1,5 @@
 -- Items served one after another, and the contents after them.
-use Rattle.std.proofs.Common.{◌≡◌, ℕ, ◌<◌, ◌+◌, Bool, true, false, cond, List, [], ◌∷◌, ◌++◌, map, drop, length, get_or, Option, Some, None, refl, sym, ap, ◌∙◌, subst, append_assoc, suc, arith, drop-cons}
+use Rattle.std.proofs.Common.{◌≡◌, ℕ, ◌<◌, ◌+◌, List, [], ◌∷◌, ◌++◌, map, drop, length, get_or, Option, Some, None, refl, sym, ap, ◌∙◌, subst, append_assoc, suc, arith, drop-cons}
 use Rattle.ds_base.specs.Ordered.{Ascends}
 use Rattle.ds_base.specs.declared.value.Stamp.{Stamp}
 use Rattle.ds_base.specs.declared.value.TxnNo.{TxnNo}
@@ -11,17 +11,14 @@ use Rattle.ds_kind.specs.declared.reply.Reply.{Reply}
 use Rattle.ds_cell.specs.declared.verdict.ActFault.{ActFault}
 use Rattle.ds_cell.specs.declared.verdict.Bit.{Bit}
 use Rattle.ds_cell.specs.declared.entry.At.{At}
-use Rattle.ds_cell.specs.Ask.{Cells, key_of, Asked, Failed, Gave}
+use Rattle.ds_cell.specs.Ask.{Cells, key_of, Failed, Gave}
 use Rattle.ds_cell.specs.Replies.{body_of}
 use Rattle.ds_cell.specs.Requests.{ask_request}
 use Rattle.ds_cell.specs.Store.{WriteAt, write_all, under_number, settle_all}
-use Rattle.ds_rule.specs.declared.answer.Answer.TheVariants as Answer
-use Rattle.ds_rule.specs.Asking.{at_of, failure_of, Made, Gives, Fails, and_before, and_then, made_by, ask_item, ask_all, committed_by, finished}
+use Rattle.ds_rule.specs.Asking.{at_of, failure_of, Made, Gives, Fails, and_before, and_then, made_by, ask_item, ask_all, committed_by}
 use Rattle.ds_rule.specs.Deliver.{answer_made}
 use Rattle.ds_range.specs.declared.serve.Tried.TheVariants as Tried
-use Rattle.ds_range.specs.declared.ask.Asked.{Asked as Answered}
-use Rattle.ds_range.specs.declared.ask.Asked.TheVariants as Answered
-use Rattle.ds_range.specs.Asks.{asked_of, wrote_each}
+use Rattle.ds_range.specs.Asks.{wrote_each}
 use Rattle.ds_range.specs.Keeps.{Kept, restored, kept_keys, settled_at}
 use Rattle.ds_range.specs.Serves.{key_of_write, finished_by, finished_at, after_made, ServedOne, ServedAll, Tries}
 use Rattle.ds_range.proofs.Freedom.{wrote_all}

@@ -1,5 +1,5 @@
 -- What a request gathers from key to key, and how its writes are made.
-use Rattle.std.specs.Prelude.{◌≡◌, ℕ, List, [], ◌∷◌, ◌++◌, Option, Some, None, is_some, if◌then◌else◌}
+use Rattle.std.specs.Prelude.{ℕ, List, [], ◌∷◌, ◌++◌, Option, Some, None, is_some, if◌then◌else◌}
 use Rattle.ds_base.specs.declared.value.Value.{Value}
 use Rattle.ds_cell.specs.declared.entry.At.{At}
 use Rattle.ds_cell.specs.declared.verdict.Verdict.{Verdict}
@@ -12,7 +12,6 @@ use Rattle.ds_cell.specs.Change.{wrote}
 use Rattle.ds_cell.specs.Ask.{Cells, Asked, Failed, Gave}
 use Rattle.ds_cell.specs.Store.{put_cell}
 use Rattle.ds_range.specs.declared.ask.Asked.{Asked as Answered}
-use Rattle.ds_range.specs.declared.ask.Asked.TheVariants as Answered
 
 -- what the code's answer says
 abbrev pub asked_of : Answered → Asked

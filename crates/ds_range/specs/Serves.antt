@@ -1,6 +1,5 @@
 -- What a range does to a piece.
 use Rattle.std.specs.Prelude.{◌≡◌, ℕ, List, [], ◌∷◌, ◌++◌, map, Option, Some, None}
-use Rattle.ds_base.specs.declared.value.Stamp.{Stamp}
 use Rattle.ds_base.specs.declared.value.TxnNo.{TxnNo}
 use Rattle.ds_kind.specs.declared.batch.Head.{Head}
 use Rattle.ds_kind.specs.declared.batch.Item.{Item}
@@ -9,15 +8,11 @@ use Rattle.ds_kind.specs.declared.reply.Reply.{Reply}
 use Rattle.ds_cell.specs.Ask.{Cells}
 use Rattle.ds_cell.specs.Store.{WriteAt}
 use Rattle.ds_rule.specs.declared.answer.Answer.{Answer}
-use Rattle.ds_rule.specs.declared.answer.Answer.TheVariants as Answer
 use Rattle.ds_rule.specs.Asking.{Made, Gives, Fails, ask_item, ask_all, finished}
 use Rattle.ds_rule.specs.Deliver.{answer_made}
-use Rattle.ds_rule.specs.World.{Range}
 use Rattle.ds_range.specs.Keeps.{Kept, kept_keys, settled_at}
 use Rattle.ds_range.specs.declared.serve.Applied.{Applied}
-use Rattle.ds_range.specs.declared.serve.Applied.TheVariants as Applied
 use Rattle.ds_range.specs.declared.serve.Tried.{Tried}
-use Rattle.ds_range.specs.declared.serve.Tried.TheVariants as Tried
 
 -- what a piece that was applied is answered
 abbrev pub answer_of : Applied → Answer

@@ -1,28 +1,23 @@
 -- The ranges tile the keys after each delivery.
-use Rattle.std.proofs.Common.{◌≡◌, ℕ, Bool, true, false, not, cond, ◌&&◌, List, [], ◌∷◌, ◌++◌, map, Option, Some, None, refl, sym, ap, ◌∙◌, subst}
+use Rattle.std.proofs.Common.{◌≡◌, ℕ, Bool, true, false, not, cond, List, [], ◌∷◌, ◌++◌, map, Option, Some, None, refl, sym, ap, subst}
 use Rattle.std.specs.List.{find, list_any, list_all}
-use Rattle.ds_base.specs.Order.{holds}
 use Rattle.ds_base.specs.declared.value.Stamp.{Stamp}
 use Rattle.ds_base.specs.declared.value.TxnNo.{TxnNo}
-use Rattle.ds_base.specs.declared.value.Value.{Value}
 use Rattle.ds_base.proofs.KeyOrder.{and_first, and_second}
-use Rattle.ds_desc.specs.declared.desc.RangeDesc.{RangeDesc}
 use Rattle.ds_desc.specs.declared.refusal.Refusal.TheVariants.{NotFound, NotLease, Mismatch}
 use Rattle.ds_kind.specs.Request.{span_of}
 use Rattle.ds_kind.specs.declared.batch.Head.{Head}
 use Rattle.ds_kind.specs.declared.batch.Item.{Item}
 use Rattle.ds_kind.specs.declared.batch.Piece.{Piece}
-use Rattle.ds_kind.specs.declared.reply.Failure.{Failure}
 use Rattle.ds_kind.specs.declared.reply.Reply.{Reply}
 use Rattle.ds_cell.specs.declared.entry.At.{At}
-use Rattle.ds_cell.specs.declared.verdict.Bit.{Bit}
 use Rattle.ds_cell.specs.Ask.{Cells, Asked, Failed, Gave}
 use Rattle.ds_cell.specs.Change.{wrote, settled}
 use Rattle.ds_cell.specs.Requests.{ask_request}
 use Rattle.ds_cell.specs.Store.{WriteAt, put_cell, write_all, under_number, settle_all}
-use Rattle.ds_rule.specs.Asking.{Made, Gives, Fails, at_of, txn_of, made_by, and_before, and_then, ask_item, ask_all, committed_by, finished}
-use Rattle.ds_rule.specs.World.{World, Range, start_of, end_of, Fits, Tiles}
-use Rattle.ds_rule.specs.Deliver.{holds_item, replaced, has_id, with_cells, mismatch_rows, status_stops, Stop, Turned, Ended, ends, stops, served, world_made, world_at, deliver_world_to, deliver_world}
+use Rattle.ds_rule.specs.Asking.{Made, Gives, Fails, at_of, made_by, and_before, and_then, ask_item, ask_all, committed_by, finished}
+use Rattle.ds_rule.specs.World.{World, Range, end_of, Fits, Tiles}
+use Rattle.ds_rule.specs.Deliver.{holds_item, replaced, has_id, mismatch_rows, status_stops, Stop, Turned, ends, stops, served, world_made, world_at, deliver_world_to, deliver_world}
 use Rattle.ds_rule.specs.Moves.{holds_key}
 use Rattle.ds_rule.proofs.Tiling.{fits-put}
 use Rattle.ds_rule.proofs.Writes.{Puts, AllIn, puts_in_span, held_key}

@@ -1,12 +1,12 @@
 -- What one range holds, read off all contents.
-use Rattle.std.proofs.Common.{◌≡◌, ℕ, Bool, true, false, cond, not, ◌&&◌, List, [], ◌∷◌, ◌++◌, Option, Some, None, refl, sym, ap, ◌∙◌, subst}
+use Rattle.std.proofs.Common.{◌≡◌, ℕ, Bool, true, false, cond, not, List, [], ◌∷◌, ◌++◌, Some, refl, sym, ap, ◌∙◌, subst}
 use Rattle.std.specs.List.{find}
 use Rattle.ds_base.specs.Order.{key_lt, key_le}
 use Rattle.ds_base.specs.Ordered.{AllOver, AllFrom, AllBelow, Ascends, between}
 use Rattle.ds_base.proofs.KeyOrder.{key_le-not_lt, key_lt-irrefl, and_first, and_second}
 use Rattle.ds_base.proofs.OrderedFacts.{le_of_lt, le_trans, lt_le_trans, over-append, cut-append, none-from, none-below}
 use Rattle.ds_cell.specs.Ask.{Cell, key_of}
-use Rattle.ds_rule.specs.World.{Range, start_of, end_of, contents, Inside, Fits, Tiles}
+use Rattle.ds_rule.specs.World.{Range, start_of, end_of, contents, Inside, Tiles}
 
 -- what the cells of a range are, against a key
 

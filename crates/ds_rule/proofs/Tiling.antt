@@ -1,11 +1,10 @@
 -- The ranges tile the keys, at first and after each write.
-use Rattle.std.proofs.Common.{◌≡◌, ℕ, ◌+◌, Bool, true, false, cond, ◌&&◌, List, [], ◌∷◌, length, refl, sym, ap, ◌∙◌, subst}
-use Rattle.std.specs.Ordering.{is_lt, is_eq, ordering_reverse}
+use Rattle.std.proofs.Common.{◌≡◌, ℕ, ◌+◌, true, false, cond, List, [], ◌∷◌, refl, ap, ◌∙◌, subst}
+use Rattle.std.specs.Ordering.{is_lt, ordering_reverse}
 use Rattle.std.specs.declared.cmp.Ordering.{Ordering}
 use Rattle.std.specs.declared.cmp.Ordering.TheVariants.{Less, Equal, Greater}
 use Rattle.std.specs.Ordering.{match_ordering}
 use Rattle.std.specs.BTreeMap.{insert_entry}
-use Rattle.std.specs.FinMap.{nat_cmp-IsAntisymmetric, slice_cmp-IsAntisymmetric}
 use Rattle.std.proofs.lemmas.Cmp.{nat_list_cmp_total}
 use Rattle.ds_base.specs.Order.{key_cmp, key_lt, holds}
 use Rattle.ds_base.specs.Ordered.{AllOver, Ascends}
@@ -14,8 +13,8 @@ use Rattle.ds_base.proofs.OrderedFacts.{over-below}
 use Rattle.ds_rule.specs.declared.cluster.ClusterRange.{ClusterRange}
 use Rattle.ds_cell.specs.Content.{Content}
 use Rattle.ds_cell.specs.Ask.{Cell, key_of}
-use Rattle.ds_rule.specs.World.{Range, start_of, end_of, Inside, Fits, Tiles}
-use Rattle.ds_rule.specs.Begin.{next_start, range_of, ranges_of, rises, tiles}
+use Rattle.ds_rule.specs.World.{Range, end_of, Inside, Fits, Tiles}
+use Rattle.ds_rule.specs.Begin.{next_start, ranges_of, rises}
 use Rattle.ds_rule.specs.Deliver.{replaced}
 use Rattle.ds_cell.specs.Store.{put_cell}
 use Rattle.ds_rule.specs.Moves.{holds_key}

@@ -5,8 +5,8 @@ use Rattle.std.proofs.Math.ListN.{set}
 use Rattle.std.proofs.lemmas.Option.{get_or_from_slice_get}
 use Rattle.ds_base.specs.Order.{key_lt, holds}
 use Rattle.ds_base.specs.Ordered.{AllOver, Ascends}
-use Rattle.ds_cell.specs.Ask.{Cell, Cells, key_of}
-use Rattle.ds_rule.specs.World.{Range, start_of, end_of, Inside, Fits, Tiles}
+use Rattle.ds_cell.specs.Ask.{Cells, key_of}
+use Rattle.ds_rule.specs.World.{Range, end_of, Inside, Fits, Tiles}
 use Rattle.ds_sim.specs.Alike.{Alike, AllAlike}
 
 first_same : (k q : List ℕ) (ks qs : List (List ℕ)) → k ∷ ks ≡ q ∷ qs → k ≡ q

@@ -7,16 +7,16 @@ use Rattle.std.specs.Ordering.{is_gt, is_le}
 use Rattle.std.specs.declared.cmp.Ordering.{Ordering}
 use Rattle.std.specs.declared.cmp.Ordering.TheVariants.{Less, Equal, Greater}
 use Rattle.std.proofs.lemmas.Bool.Decides.{nat_tests}
-use Rattle.ds_base.specs.Order.{key_cmp, key_lt, key_le, bound, holds, IsKey}
+use Rattle.ds_base.specs.Order.{key_lt, key_le, bound, holds, IsKey}
 use Rattle.ds_base.specs.declared.value.Dir.{Dir}
 use Rattle.ds_base.specs.declared.value.Dir.TheVariants.{Forward, Reverse}
 use Rattle.std.proofs.lemmas.List.{reverse-append}
 use Rattle.ds_base.proofs.KeyOrder.{and_first, and_second, key_le-not_lt}
-use Rattle.ds_base.proofs.OrderedFacts.{le_of_not_lt, not_lt_of_le, le_of_lt, not_le_of_lt}
+use Rattle.ds_base.proofs.OrderedFacts.{le_of_not_lt, not_lt_of_le, not_le_of_lt}
 use Rattle.ds_desc.specs.Contains.{contains, lies_ahead, first_contains}
 use Rattle.ds_rule.specs.declared.cluster.ClusterRange.{ClusterRange}
 use Rattle.ds_rule.specs.World.{Range, start_of, end_of, Tiles, in_order, from_first}
-use Rattle.ds_rule.specs.Begin.{next_start, ranges_of, rises, tiles}
+use Rattle.ds_rule.specs.Begin.{next_start, ranges_of, tiles}
 use Rattle.ds_rule.proofs.Tiling.{rises-tiles}
 use Rattle.ds_sim.specs.State.{rows_of}
 

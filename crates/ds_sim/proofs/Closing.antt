@@ -1,11 +1,10 @@
 -- How a block's calls change what a wire stands for.
-use Rattle.std.proofs.Common.{◌≡◌, ℕ, zero, suc, ◌-◌, ◌<◌, ◌==◌, Bool, true, false, cond, List, [], ◌∷◌, ◌++◌, map, length, get_or, Option, Some, None, refl, sym, ap, ◌∙◌, arith, Result, Ok, Err, OnOk}
-use Rattle.std.specs.declared.alloc.AllocError.{AllocError}
+use Rattle.std.proofs.Common.{◌≡◌, ℕ, zero, suc, ◌-◌, ◌<◌, List, [], ◌∷◌, map, length, get_or, Option, Some, None, refl, ap, ◌∙◌, arith}
 use Rattle.std.proofs.Math.ListN.{set}
 use Rattle.ds_base.specs.declared.value.Stamp.{Stamp}
 use Rattle.ds_cell.specs.Seen.{last_of}
 use Rattle.ds_rule.specs.declared.record.TxnRecord.{TxnRecord}
-use Rattle.ds_rule.specs.World.{World, Range}
+use Rattle.ds_rule.specs.World.{Range}
 use Rattle.ds_rule.specs.Close.{settle_range, settle_by, commit_of, closed}
 use Rattle.ds_rule.specs.Moves.{aborted, with_last, with_last_after}
 use Rattle.ds_sim.specs.State.{world_of}

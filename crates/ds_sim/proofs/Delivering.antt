@@ -1,5 +1,5 @@
 -- A piece delivered to the range with its id.
-use Rattle.std.proofs.Common.{◌≡◌, ℕ, ◌+◌, Bool, true, false, cond, List, [], ◌∷◌, map, Option, Some, None, refl, sym, ap, ◌∙◌, subst, get_or, position, Result, Ok, Err, IfOk, OnErr}
+use Rattle.std.proofs.Common.{◌≡◌, ℕ, ◌+◌, Bool, true, false, cond, List, [], ◌∷◌, map, Option, Some, None, refl, sym, ap, ◌∙◌, subst, position, Result, Ok, Err, IfOk, OnErr}
 use Rattle.std.specs.List.{find, slice_get}
 use Rattle.std.specs.Option.{option_map}
 use Rattle.std.specs.declared.alloc.AllocError.{AllocError}
@@ -7,7 +7,6 @@ use Rattle.std.proofs.Math.ListN.{set}
 use Rattle.std.proofs.lemmas.Option.{get_or_from_slice_get}
 use Rattle.ds_base.specs.declared.value.Stamp.{Stamp}
 use Rattle.ds_base.specs.declared.value.Value.{Value}
-use Rattle.ds_desc.specs.declared.desc.RangeDesc.{RangeDesc}
 use Rattle.ds_desc.specs.declared.refusal.Refusal.TheVariants.{NotFound}
 use Rattle.ds_kind.specs.declared.batch.Piece.{Piece}
 use Rattle.ds_cell.specs.Ask.{Cells}
@@ -19,7 +18,7 @@ use Rattle.ds_rule.specs.declared.event.Event.TheVariants.{Write}
 use Rattle.ds_rule.specs.declared.record.TxnRecord.{TxnRecord}
 use Rattle.ds_rule.specs.Asking.{Made, Gives, Fails}
 use Rattle.ds_rule.specs.World.{World, Range, Tiles}
-use Rattle.ds_rule.specs.Deliver.{Stop, Turned, Ended, stop_answer, has_id, stops, served, replaced, answer_at, answer_made, world_at, world_made, deliver_answer, deliver_world, deliver_answer_to, deliver_world_to}
+use Rattle.ds_rule.specs.Deliver.{Stop, stop_answer, has_id, stops, served, replaced, answer_at, answer_made, world_at, world_made, deliver_answer, deliver_world, deliver_answer_to, deliver_world_to}
 use Rattle.ds_rule.specs.Moves.{holds_key, moved}
 use Rattle.ds_rule.proofs.Delivered.{holding, same_descs, delivered_tiles}
 use Rattle.ds_range.specs.Serves.{after_made}

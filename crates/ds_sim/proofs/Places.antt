@@ -1,5 +1,5 @@
 -- The first range that passes, changed where it stands.
-use Rattle.std.proofs.Common.{◌≡◌, ℕ, suc, zero, ◌+◌, ◌<◌, ◌≤◌, Bool, true, false, cond, not, List, [], ◌∷◌, Option, Some, None, refl, sym, ap, ◌∙◌, subst, length, get_or, position, nat_lt, arith, Result, Ok, Err, OnOk, OnErr}
+use Rattle.std.proofs.Common.{◌≡◌, ℕ, suc, ◌+◌, ◌<◌, ◌≤◌, Bool, true, false, cond, not, List, [], ◌∷◌, Some, None, refl, sym, ap, ◌∙◌, subst, length, get_or, position, nat_lt, arith, Result, Ok, Err, OnOk, OnErr}
 use Rattle.std.specs.List.{slice_get}
 use Rattle.std.specs.declared.alloc.AllocError.{AllocError}
 use Rattle.std.proofs.lemmas.Option.{get_or_from_slice_get}
@@ -8,7 +8,7 @@ use Rattle.ds_cell.specs.Content.{Content}
 use Rattle.ds_cell.specs.Store.{put_cell}
 use Rattle.ds_rule.specs.Moves.{holds_key}
 use Rattle.ds_rule.proofs.Tiling.{tiles-put}
-use Rattle.std.specs.List.{find, position_or_len, prefix_len}
+use Rattle.std.specs.List.{find, position_or_len}
 use Rattle.std.proofs.Math.ListN.{set}
 use Rattle.std.proofs.lemmas.Bool.Decides.{nat_tests}
 use Rattle.ds_rule.specs.World.{Range, Tiles}

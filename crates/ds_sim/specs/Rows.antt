@@ -1,5 +1,5 @@
 -- Rows gathered one after another, up to a number.
-use Rattle.std.specs.Prelude.{◌≡◌, ℕ, Bool, ◌&&◌, List, [], ◌∷◌, ◌++◌, length, nat_lt, if◌then◌else◌}
+use Rattle.std.specs.Prelude.{ℕ, Bool, ◌&&◌, List, [], ◌∷◌, ◌++◌, length, nat_lt, if◌then◌else◌}
 use Rattle.ds_desc.specs.declared.desc.Info.{Info}
 
 -- the rows with one more, where it is wanted and fewer than so many stand there

@@ -1,5 +1,5 @@
 -- What the simulated cluster stands for.
-use Rattle.std.specs.Prelude.{◌≡◌, ℕ, ◌+◌, ◌-◌, ◌^◌, nat_lt, if◌then◌else◌, List, [], ◌∷◌, map, take}
+use Rattle.std.specs.Prelude.{ℕ, ◌+◌, ◌-◌, ◌^◌, nat_lt, if◌then◌else◌, List, [], map, take}
 use Rattle.ds_rule.specs.declared.answer.Answer.{Answer}
 use Rattle.ds_rule.specs.declared.answer.Answer.TheVariants.{Done, Failed, Refused, Lost}
 use Rattle.ds_base.specs.declared.value.Dir.{Dir}

@@ -1,4 +1,4 @@
-use Rattle.std.proofs.Common.{rules, ◌≡◌, ◌∷◌, Some, None}
+use Rattle.std.proofs.Common.{rules, ◌≡◌, ◌∷◌, None}
 use Rattle.ds_base.proofs.KeyOrder.{between_holds}
 use Rattle.ds_base.specs.Ordered.{between}
 use Rattle.ds_cell.specs.Ask.{Gave, key_of, ask_each}

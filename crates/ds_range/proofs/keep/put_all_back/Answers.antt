@@ -1,5 +1,4 @@
 use Rattle.std.proofs.Common.{rules, ◌≡◌, ◌++◌, ◌∷◌, []}
-use Rattle.ds_range.specs.Keeps.{restored}
 use Rattle.ds_range.proofs.Maps.{put_more}
 use Rattle.ds_range.proofs.keep.put_all_back.Goals as goal
 

@@ -1,4 +1,4 @@
-use Rattle.std.proofs.Common.{rules, ◌≡◌, ap, ◌∙◌, sym}
+use Rattle.std.proofs.Common.{rules, ◌≡◌}
 use Rattle.ds_cell.specs.Ask.{Gave}
 use Rattle.ds_cell.specs.Requests.{ask_request}
 use Rattle.ds_rule.specs.Asking.{at_of}

@@ -1,4 +1,4 @@
-use Rattle.std.proofs.Common.{rules, ◌≡◌, ◌∙◌, ◌++◌, ◌∷◌, []}
+use Rattle.std.proofs.Common.{◌∙◌}
 use Rattle.ds_range.proofs.Maps.{wrote_last, keys_of_last}
 use Rattle.ds_range.proofs.serve.write_each.Goals as goal
 

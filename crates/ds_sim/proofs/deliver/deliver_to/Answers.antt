@@ -4,7 +4,7 @@ use Rattle.ds_rule.specs.declared.answer.Answer.TheVariants.{Refused}
 use Rattle.ds_rule.specs.Deliver.{has_id}
 use Rattle.ds_sim.specs.State.{world_of}
 use Rattle.ds_sim.proofs.Places.{find_none}
-use Rattle.ds_sim.proofs.Delivering.{Delivers, not_there, noted_ok, answer_ok, after_ok}
+use Rattle.ds_sim.proofs.Delivering.{not_there, noted_ok, answer_ok, after_ok}
 use Rattle.ds_sim.proofs.deliver.deliver_to.Goals as goal
 
 pub returns-in-None-clause-answer : goal.returns-in-None-clause-answer

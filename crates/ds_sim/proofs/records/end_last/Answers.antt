@@ -1,4 +1,4 @@
-use Rattle.std.proofs.Common.{rules, ◌≡◌, ◌<◌, ◌-◌, length, get_or, arith}
+use Rattle.std.proofs.Common.{rules, ◌≡◌, ◌<◌, ◌-◌, length, arith}
 use Rattle.ds_sim.proofs.Closing.{set_last}
 use Rattle.ds_sim.proofs.records.end_last.Goals as goal
 

@@ -1,4 +1,4 @@
-use Rattle.std.proofs.Common.{◌∙◌, sym, rules, ◌≡◌}
+use Rattle.std.proofs.Common.{rules, ◌≡◌}
 use Rattle.ds_kind.specs.Reach.{At}
 use Rattle.ds_kind.specs.Request.{reach_of}
 use Rattle.ds_range.proofs.Held.{held_at}

@@ -1,7 +1,6 @@
-use Rattle.std.proofs.Common.{rules, ◌≡◌, Some, None, sym, ap, subst, ◌∙◌, OnOk, OnErr, position, length, refl}
+use Rattle.std.proofs.Common.{rules, ◌≡◌, Some, None, sym, position, length, refl}
 use Rattle.std.proofs.lemmas.Option.{slice_get_read}
 use Rattle.std.specs.List.{slice_get}
-use Rattle.ds_rule.specs.Deliver.{replaced}
 use Rattle.ds_cell.specs.Store.{put_cell}
 use Rattle.ds_rule.specs.Moves.{holds_key}
 use Rattle.ds_cell.specs.Change.{after_foreign}
