@@ -10,5 +10,6 @@ mod requests;
 mod route;
 mod tries;
 pub mod txn;
+mod whole;
 
 pub use txn::Txn;
