@@ -6,7 +6,7 @@ ghost use Rattle.ds_base.specs.declared.value.Dir.TheVariants.{Forward};
 ghost use Rattle.ds_kind.specs.Asks.{has_proper_span};
 ghost use Rattle.ds_kind.specs.Parts.{requests_of};
 ghost use Rattle.ds_kind.specs.Request.{span_of};
-ghost use Rattle.ds_rule.specs.Cause.{whole_span};
+ghost use Rattle.ds_rule.specs.Cause.{whole_span, widened};
 ghost use Rattle.ds_send.specs.Sent.{CameOf, DidOnce, IsWholeSendable, any_risky, is_risky};
 
 use crate::asked::Asked;
@@ -15,7 +15,7 @@ use crate::route::route;
 use crate::tries::Tries;
 use ds_base::{Copies, Dir, Key, Span};
 use ds_desc::RangeDesc;
-use ds_kind::{Bounds, Failure, Items, Piece, Replies, Request};
+use ds_kind::{Bounds, Failure, Item, Items, Piece, Replies, Request};
 use ds_rule::{Answer, Outcome, Wire};
 use std::alloc::{AllocError, Global};
 
@@ -66,6 +66,18 @@ fn wider(span: Span, other: Span) -> Span
     }
 }
 
+/// The least span that holds the span and those of the requests.
+fn widened(alloc: Global, span: Span, items: &[Item]) -> Result<Span, AllocError>
+    requires { list_all has_proper_span (requests_of items.now) ≡ true }
+    ensures { IfOk result (λ s. s ≡ widened span items.now) }
+{
+    let mut span = span;
+    for item in items {
+        span = wider(span, span_of(alloc, &item.request)?);
+    }
+    Ok(span)
+}
+
 /// The least span that holds those of all requests.
 fn whole_span(alloc: Global, items: &Items) -> Result<Span, AllocError>
     requires some { 0 < length items.now }
@@ -74,11 +86,8 @@ fn whole_span(alloc: Global, items: &Items) -> Result<Span, AllocError>
     ensures lies { IfOk result (λ s. key_lt s.start bound ≡ true) }
 {
     let all = items.as_slice();
-    let mut span = span_of(alloc, &all[0].request)?;
-    let rest = &all[1..];
-    for item in rest {
-        span = wider(span, span_of(alloc, &item.request)?);
-    }
+    let first = span_of(alloc, &all[0].request)?;
+    let span = widened(alloc, first, &all[1..])?;
     span.end.known();
     Ok(span)
 }
