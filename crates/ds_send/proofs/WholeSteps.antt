@@ -122,7 +122,7 @@ in-vain q a b s of whole idle told st = record {
   told = λ once. step-each IsTold (λ e. tt) q a b s of st (told once);
 }
 
-then-each : (P : Happening → Type 0) (q : Asking) (a b c : Stands) (got more : List Accepted) (r1 l1 r2 l2 : ℕ) (v : Trip q a b got r1 l1) (w : Trip q b c more r2 l2) → Each P v.path.added → Each P w.path.added → Each P (trip-then q a b c got more r1 l1 r2 l2 v w).path.added
+pub then-each : (P : Happening → Type 0) (q : Asking) (a b c : Stands) (got more : List Accepted) (r1 l1 r2 l2 : ℕ) (v : Trip q a b got r1 l1) (w : Trip q b c more r2 l2) → Each P v.path.added → Each P w.path.added → Each P (trip-then q a b c got more r1 l1 r2 l2 v w).path.added
 then-each P q a b c got more r1 l1 r2 l2 v w x y = subst (Each P) (sym (then-added q a b c got more r1 l1 r2 l2 v w)) (each-append P v.path.added w.path.added x y)
 
 -- one after the other
@@ -147,10 +147,10 @@ vain-then q a b c r1 l1 r2 l2 v w = record {
 }
 
 -- what is last stays last
-after-all : (hs before ks : List Happening) (h : Happening) (xs : List Happening) → ks ≡ before ++ h ∷ [] → xs ≡ hs ++ ks → xs ≡ (hs ++ before) ++ h ∷ []
+pub after-all : (hs before ks : List Happening) (h : Happening) (xs : List Happening) → ks ≡ before ++ h ∷ [] → xs ≡ hs ++ ks → xs ≡ (hs ++ before) ++ h ∷ []
 after-all hs before ks h xs e f = f ∙ ap (λ zs. hs ++ zs) e ∙ sym (append_assoc hs before (h ∷ []))
 
-vain-added : (q : Asking) (a b c : Stands) (r1 l1 r2 l2 : ℕ) (v : InVain q a b r1 l1) (w : InVain q b c r2 l2) → (vain-then q a b c r1 l1 r2 l2 v w).trip.path.added ≡ v.trip.path.added ++ w.trip.path.added
+pub vain-added : (q : Asking) (a b c : Stands) (r1 l1 r2 l2 : ℕ) (v : InVain q a b r1 l1) (w : InVain q b c r2 l2) → (vain-then q a b c r1 l1 r2 l2 v w).trip.path.added ≡ v.trip.path.added ++ w.trip.path.added
 unfolding vain-then
 vain-added q a b c r1 l1 r2 l2 v w = then-added q a b c v.got w.got r1 l1 r2 l2 v.trip w.trip
 
