@@ -74,9 +74,9 @@ plain-endless (EndTxn a) h = sym h
 plain-endless r h = refl
 
 none-of-built : (p : Request → Bool) (at : Option Stamp) (rs : List Request) → ((r : Request) → (is_plain_read r || is_value_write r) ≡ true → p r ≡ false) → list_all (is_built_request at) rs ≡ true → list_any p rs ≡ false
-none-of-built p at [] no h = refl
-none-of-built p at (r ∷ rs) no h =
-    or-both (p r) (list_any p rs) (no r (built-plain at r (and-first _ (list_all (is_built_request at) rs) h))) (none-of-built p at rs no (and-second (is_built_request at r) _ h))
+none-of-built p at [] never h = refl
+none-of-built p at (r ∷ rs) never h =
+    or-both (p r) (list_any p rs) (never r (built-plain at r (and-first _ (list_all (is_built_request at) rs) h))) (none-of-built p at rs never (and-second (is_built_request at r) _ h))
 
 -- a legal batch of what is built can be sent request by request
 pub sendable : (b : Batch) (q : Asking) (last : ℕ) → IsLegal b → is_built b ≡ true → q.items ≡ items_from 0 b.requests (numbers_from last b.requests) → IsSendable q
