@@ -15,7 +15,7 @@ use Rattle.ds_rule.specs.Pieces.{Each}
 use Rattle.ds_rule.proofs.Routes.{append-nil}
 use Rattle.ds_rule.proofs.Trips.{each-append, trip-then, then-added}
 use Rattle.ds_send.specs.declared.tries.Tries.{Tries}
-use Rattle.ds_send.specs.Sent.{IsTold, ToldButLast, DidOnce, InVain, ServedOnce, FailedOnce, WideOnce, LostOnce, Trying, Spent, any_risky, outcome_of}
+use Rattle.ds_send.specs.Sent.{AmbiguousBy, IsTold, ToldButLast, DidOnce, InVain, ServedOnce, FailedOnce, WideOnce, LostOnce, Trying, Spent, any_risky, outcome_of}
 use Rattle.ds_send.proofs.WholeSteps.{none-tried, vain-then, vain-added, then-each, after-all}
 
 told-all : (hs : List Happening) → Each IsTold hs → ToldButLast hs
@@ -40,6 +40,7 @@ then-served budget q a b c r l rs v d = record {
     );
   };
   once = λ o. told-all _ (then-each IsTold q a b c v.got d.got r l 0 0 v.trip d.trip (v.told o) (d.told o));
+  ambiguous = tt;
 }
 
 pub then-wide : (budget : ℕ) (q : Asking) (a b c : Stands) (r l : ℕ) (desc : RangeDesc) → InVain q a b r l → WideOnce q b c desc → DidOnce budget q a c (Outcome.OpRequiresTxn desc)
@@ -60,6 +61,7 @@ then-wide budget q a b c r l desc v d = record {
     };
   };
   once = λ o. told-all _ (then-each IsTold q a b c v.got d.got r l 0 0 v.trip d.trip (v.told o) (d.told o));
+  ambiguous = tt;
 }
 
 failed-so : (budget : ℕ) (q : Asking) (hs : List Happening) (f : Failure) → IsHeldBack q hs → LastFails f hs → WholeCauseOf budget q hs (outcome_of f)
@@ -70,25 +72,31 @@ failed-so budget q hs (Failure.Overflow i) held last = (held, last)
 failed-so budget q hs Failure.Aborted held last = (held, last)
 failed-so budget q hs Failure.Committed held last = (held, inl last)
 
+failed-ambiguous : (q : Asking) (hs : List Happening) (f : Failure) → LastFails f hs → AmbiguousBy q hs (outcome_of f)
+failed-ambiguous q hs Failure.Committed last = inl (refl, last)
+failed-ambiguous q hs (Failure.Condition i v) last = tt
+failed-ambiguous q hs (Failure.TooOld i k t) last = tt
+failed-ambiguous q hs (Failure.NotInteger i) last = tt
+failed-ambiguous q hs (Failure.Overflow i) last = tt
+failed-ambiguous q hs Failure.Aborted last = tt
+
 pub then-failed : (budget : ℕ) (q : Asking) (a b c : Stands) (r l : ℕ) (f : Failure) → InVain q a b r l → FailedOnce q b c f → DidOnce budget q a c (outcome_of f)
 then-failed budget q a b c r l f v d =
     let w = vain-then q a b c r l 0 0 v d.vain in
+    let last : LastFails f w.trip.path.added = record {
+      before = v.trip.path.added ++ d.last.before;
+      node = d.last.node;
+      piece = d.last.piece;
+      last = after-all v.trip.path.added d.last.before d.vain.trip.path.added _ _ d.last.last (vain-added q a b c r l 0 0 v d.vain);
+    } in
     record {
-      did = record {
-        got = w.got;
-        path = w.trip.path;
-        cause = failed-so budget q w.trip.path.added f w.held (record {
-          before = v.trip.path.added ++ d.last.before;
-          node = d.last.node;
-          piece = d.last.piece;
-          last = after-all v.trip.path.added d.last.before d.vain.trip.path.added _ _ d.last.last (vain-added q a b c r l 0 0 v d.vain);
-        });
-      };
+      did = record { got = w.got; path = w.trip.path; cause = failed-so budget q w.trip.path.added f w.held last };
       once = λ o. told-all _ (w.told o);
+      ambiguous = failed-ambiguous q w.trip.path.added f last;
     }
 
-pub then-lost : (budget : ℕ) (q : Asking) (a b c : Stands) (r l n : ℕ) → InVain q a b r l → LostOnce q b c → DidOnce budget q a c (Outcome.Ambiguous n)
-then-lost budget q a b c r l n v d =
+pub then-lost : (budget : ℕ) (q : Asking) (a b c : Stands) (r l : ℕ) → any_risky q.items ≡ true → InVain q a b r l → LostOnce q b c → DidOnce budget q a c (Outcome.Ambiguous 1)
+then-lost budget q a b c r l risky v d =
     let e = after-all v.trip.path.added d.before d.trip.path.added (Did (Send d.node d.piece Lost)) _ d.last (then-added q a b c v.got d.got r l 0 1 v.trip d.trip) in
     record {
       did = record {
@@ -109,6 +117,7 @@ then-lost budget q a b c r l n v d =
         one = omega arith;
         is = e;
       };
+      ambiguous = inr (refl, risky, record { before = v.trip.path.added ++ d.before; node = d.node; piece = d.piece; last = e });
     }
 
 pub used-up : (budget : ℕ) (q : Asking) (a b : Stands) (r l : ℕ) → InVain q a b r l → r + l ≡ budget → DidOnce budget q a b (Outcome.RetryExhausted r l)
@@ -119,6 +128,7 @@ used-up budget q a b r l v sum = record {
     cause = (v.held, record { refusals = v.trip.refusals; losses = v.trip.losses; sum = sum });
   };
   once = λ o. told-all _ (v.told o);
+  ambiguous = tt;
 }
 
 -- a try in vain, and on

@@ -1,5 +1,5 @@
 -- What one batch comes to, and what its steps were.
-use Rattle.std.specs.Prelude.{◌≡◌, ℕ, ◌+◌, ◌<◌, ◌≤◌, Bool, true, false, not, ◌&&◌, List, [], ◌∷◌, ◌++◌, length, Option, Some, None, is_some, if◌then◌else◌, refl, pos}
+use Rattle.std.specs.Prelude.{◌≡◌, ℕ, ◌+◌, ◌<◌, ◌≤◌, ◌⊎◌, Bool, true, false, not, ◌&&◌, List, [], ◌∷◌, ◌++◌, length, Option, Some, None, is_some, if◌then◌else◌, refl, pos}
 use Rattle.std.specs.List.{list_any, list_all}
 use Rattle.ds_base.specs.Order.{key_lt, key_le, IsKey}
 use Rattle.ds_base.specs.declared.value.Value.TheVariants.{Int}
@@ -25,7 +25,7 @@ use Rattle.ds_rule.specs.declared.answer.Outcome.{Outcome}
 use Rattle.ds_rule.specs.declared.answer.Outcome.TheVariants as Outcome
 use Rattle.ds_rule.specs.declared.journal.JournalStep.TheVariants.{Look, Send}
 use Rattle.ds_rule.specs.Asking.{Asking, asking}
-use Rattle.ds_rule.specs.Cause.{Trip, LastFails, LastServes, TooWide, IsHeldBack, IsWholeOf, CauseOf, WholeCauseOf}
+use Rattle.ds_rule.specs.Cause.{Trip, LastFails, LastLost, LastServes, TooWide, IsHeldBack, IsWholeOf, CauseOf, WholeCauseOf}
 use Rattle.ds_rule.specs.Clauses.{Stands}
 use Rattle.ds_rule.specs.Gathered.{IsBody, Joins}
 use Rattle.ds_rule.specs.Journal.{Accepted, Happening, Moved, Did as Stepped}
@@ -159,10 +159,17 @@ pub record ToldButLast (hs : List Happening) : Type 0 where
   pub one : length later ≤ 1
   pub is : hs ≡ before ++ later
 
+-- a batch stays ambiguous where its record was found committed, with no commit of its own lost; or where it does harm
+-- twice and its one send was lost
+abbrev pub AmbiguousBy : Asking → List Happening → Outcome → Type 0
+AmbiguousBy q hs (Outcome.Ambiguous n) = ((n ≡ 0) × LastFails Failure.Committed hs) ⊎ ((n ≡ 1) × (any_risky q.items ≡ true) × LastLost hs)
+AmbiguousBy q hs o = Unit {0}
+
 -- what a call did in one piece; where a request does harm twice, nothing was done after a send that was lost
 pub record DidOnce (budget : ℕ) (q : Asking) (a b : Stands) (o : Outcome) : Type 0 where
   pub did : DidWhole budget q a b o
   pub once : any_risky q.items ≡ true → ToldButLast did.path.added
+  pub ambiguous : AmbiguousBy q did.path.added o
 
 -- the whole batch was tried in vain; where a request does harm twice, no send was lost
 pub record InVain (q : Asking) (a b : Stands) (refused lost : ℕ) : Type 0 where

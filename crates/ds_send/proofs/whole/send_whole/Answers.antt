@@ -36,8 +36,9 @@ tries-preserved-in-LookLost g c =
 
 pub returns-then-any_risky : goal.returns-then-any_risky
 returns-then-any_risky g c =
+    let risky : any_risky c.args.asked.now.items ≡ true = ap (λ (q : Asking). any_risky q.items) (sym c.asked.view_is) ∙ sym c.any_risky.ensures ∙ c.if-any_risky.true in
     then-lost c.args.budget c.args.asked.now (g.W.Wire.state c.args.wire.now) (g.W.Wire.state c.tries.wire) (g.W.Wire.state c.one_try.new.wire)
-    c.tries.tries.refused c.tries.tries.lost 1 c.tries.invariant.vain (rw c.in-SendLost.is at c.in_ok-replies.ensures)
+    c.tries.tries.refused c.tries.tries.lost risky c.tries.invariant.vain (rw c.in-SendLost.is at c.in_ok-replies.ensures)
 
 pub tries-preserved : goal.tries-preserved
 tries-preserved g c =
