@@ -1,7 +1,7 @@
 -- A batch that is sent in one piece.
 use Rattle.std.proofs.Common.{◌≡◌, ℕ, ◌+◌, ◌<◌, ◌≤◌, ◌⊎◌, Bool, true, false, cond, ◌&&◌, ◌||◌, List, [], ◌∷◌, ◌++◌, map, length, Option, Some, None, inl, inr, refl, sym, ap, ◌∙◌, subst, append_assoc, arith}
 use Rattle.std.specs.List.{list_any, list_all}
-use Rattle.ds_base.specs.Order.{key_lt, key_le, after}
+use Rattle.ds_base.specs.Order.{Extent, key_lt}
 use Rattle.ds_base.specs.declared.value.Dir.TheVariants.{Forward}
 use Rattle.ds_base.proofs.KeyOrder.{and_first, and_second, below-after}
 use Rattle.ds_desc.specs.Contains.{contains}
@@ -159,6 +159,10 @@ unfolding in-vain
 in-vain-added q a b s of whole idle told st = step-added q a b s of st
 
 -- one try: a lookup, and the whole batch sent
+
+-- what a test of a span says of the batch's
+pub holds-whole : (d s w : Extent) (t u : Bool) → s ≡ w → t ≡ holds_span d s → t ≡ u → holds_span d w ≡ u
+holds-whole d s w t u same is e = ap (holds_span d) (sym same) ∙ sym is ∙ e
 
 pub look-lost : (q : Asking) (a b : Stands) (k : List ℕ) → Steps a b (Look k Forward Looked.Lost) → InVain q a b 0 1
 look-lost q a b k st = in-vain q a b (Look k Forward Looked.Lost) tt tt tt (λ once. tt) st
