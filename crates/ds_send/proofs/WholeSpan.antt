@@ -1,13 +1,8 @@
 -- The least span that holds the spans of all requests.
-use Rattle.std.proofs.Common.{◌≡◌, ℕ, ◌<◌, Bool, true, false, cond, ◌&&◌, List, [], ◌∷◌, length, drop, map, refl, sym, ap, ◌∙◌, subst, arith}
-use Rattle.std.specs.List.{list_all}
-use Rattle.ds_base.specs.Order.{Extent, key_lt, key_le, min_key, max_key}
-use Rattle.ds_base.proofs.KeyOrder.{and_first, and_second, key_le_lt-trans}
-use Rattle.ds_base.proofs.OrderedFacts.{le_of_lt, le_of_not_lt, lt_le_trans}
-use Rattle.ds_kind.specs.Asks.{has_proper_span}
-use Rattle.ds_kind.specs.Parts.{requests_of}
-use Rattle.ds_kind.specs.Request.{span_of}
-use Rattle.ds_kind.specs.declared.batch.Item.{Item}
+use Rattle.std.proofs.Common.{◌≡◌, ℕ, true, false, cond, List, refl}
+use Rattle.ds_base.specs.Order.{key_lt, key_le, min_key, max_key}
+use Rattle.ds_base.proofs.KeyOrder.{key_le_lt-trans}
+use Rattle.ds_base.proofs.OrderedFacts.{le_of_lt, lt_le_trans}
 use Rattle.ds_rule.proofs.Routes.{le_itself}
 
 min_low : (a b : List ℕ) → key_le (min_key a b) a ≡ true

@@ -1,41 +1,36 @@
 -- A batch that is sent in one piece.
-use Rattle.std.proofs.Common.{◌≡◌, ℕ, ◌+◌, ◌<◌, ◌≤◌, ◌⊎◌, Bool, true, false, cond, ◌&&◌, ◌||◌, List, [], ◌∷◌, ◌++◌, map, length, Option, Some, None, inl, inr, refl, sym, ap, ◌∙◌, subst, append_assoc, arith}
-use Rattle.std.specs.List.{list_any, list_all}
+use Rattle.std.proofs.Common.{◌≡◌, ℕ, ◌+◌, Bool, true, false, List, [], ◌∷◌, ◌++◌, map, inl, inr, refl, sym, ap, ◌∙◌, subst, append_assoc}
+use Rattle.std.specs.List.{list_all}
 use Rattle.ds_base.specs.Order.{Extent, key_lt}
 use Rattle.ds_base.specs.declared.value.Dir.TheVariants.{Forward}
 use Rattle.ds_base.proofs.KeyOrder.{and_first, and_second, below-after}
 use Rattle.ds_desc.specs.Contains.{contains}
 use Rattle.ds_desc.specs.declared.desc.Info.{Info}
-use Rattle.ds_desc.specs.declared.desc.RangeDesc.{RangeDesc}
 use Rattle.ds_desc.specs.declared.meta.Looked.TheVariants as Looked
 use Rattle.ds_desc.specs.declared.refusal.Refusal.{Refusal}
-use Rattle.ds_kind.specs.Asks.{has_proper_span, is_end}
+use Rattle.ds_kind.specs.Asks.{has_proper_span}
 use Rattle.ds_kind.specs.Parts.{requests_of}
 use Rattle.ds_kind.specs.Request.{cut_to, span_of}
 use Rattle.ds_kind.specs.declared.batch.Item.{Item}
 use Rattle.ds_kind.specs.declared.batch.Piece.{Piece}
 use Rattle.ds_kind.specs.declared.reply.Failure.{Failure}
-use Rattle.ds_kind.specs.declared.reply.Failure.TheVariants as Failure
 use Rattle.ds_kind.specs.declared.reply.Reply.{Reply}
 use Rattle.ds_kind.specs.declared.request.Request.{Request}
 use Rattle.ds_kind.specs.declared.request.Request.TheVariants.{Get, Scan, ReverseScan, Put, ConditionalPut, InitPut, Increment, Delete, DeleteRange, EndTxn, QueryIntent, ResolveIntent, ResolveIntentRange, AdminSplit, AdminTransferLease}
 use Rattle.ds_rule.specs.declared.answer.Answer.{Answer}
 use Rattle.ds_rule.specs.declared.answer.Answer.TheVariants.{Done, Failed, Refused, Lost}
-use Rattle.ds_rule.specs.declared.answer.Outcome.TheVariants as Outcome
 use Rattle.ds_rule.specs.declared.event.Event.{Event}
 use Rattle.ds_rule.specs.declared.journal.JournalStep.{JournalStep}
 use Rattle.ds_rule.specs.declared.journal.JournalStep.TheVariants.{Look, Send}
 use Rattle.ds_rule.specs.Asking.{Asking}
-use Rattle.ds_rule.specs.Cause.{Trip, LastFails, LastServes, LastLost, TooWide, UsedUp, IsHeldBack, IsWholeOf, IsWholeStep, IsIdle, WholeCauseOf, whole_span, holds_span, refusals_of, losses_of}
+use Rattle.ds_rule.specs.Cause.{Trip, IsWholeOf, IsWholeStep, IsIdle, whole_span, holds_span, refusals_of, losses_of}
 use Rattle.ds_rule.specs.Clauses.{Stands, Steps}
 use Rattle.ds_rule.specs.Journal.{Happening, Moved, Did, Accepted, accepted_by}
-use Rattle.ds_rule.specs.Law.{DidWhole}
 use Rattle.ds_rule.specs.Path.{IsStepOf}
 use Rattle.ds_rule.specs.Pieces.{Each, IsOneOf, IsCut, PieceOf}
-use Rattle.ds_rule.proofs.Routes.{le_itself, append-nil}
+use Rattle.ds_rule.proofs.Routes.{le_itself}
 use Rattle.ds_rule.proofs.Trips.{each-append, trip-none, trip-step, trip-then, step-added, then-added, none-added}
-use Rattle.ds_send.specs.declared.tries.Tries.{Tries}
-use Rattle.ds_send.specs.Sent.{IsWholeSendable, IsTold, ToldButLast, DidOnce, InVain, ServedOnce, FailedOnce, WideOnce, LostOnce, Trying, Spent, any_risky, outcome_of}
+use Rattle.ds_send.specs.Sent.{IsWholeSendable, IsTold, InVain, ServedOnce, FailedOnce, WideOnce, LostOnce, any_risky}
 use Rattle.ds_send.proofs.Cuts.{goes-forward}
 
 -- the whole batch is a piece of itself
