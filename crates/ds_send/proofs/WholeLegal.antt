@@ -1,9 +1,8 @@
 -- A legal batch of what is built can be sent.
-use Rattle.std.proofs.Common.{◌≡◌, ℕ, suc, ◌+◌, ◌<◌, ◌≤◌, Bool, true, false, not, cond, ◌&&◌, ◌||◌, List, [], ◌∷◌, ◌++◌, length, map, Option, Some, None, is_some, is_none, refl, sym, ap, ◌∙◌, subst, arith}
+use Rattle.std.proofs.Common.{◌≡◌, ℕ, ◌+◌, ◌<◌, ◌≤◌, Bool, true, false, ◌&&◌, ◌||◌, List, [], ◌∷◌, ◌++◌, length, Option, Some, None, is_some, is_none, refl, sym, ap, ◌∙◌, subst, arith}
 use Rattle.std.specs.List.{list_all, list_any, flat_map, All}
 use Rattle.std.proofs.lemmas.List.{length-map}
 use Rattle.std.proofs.lemmas.List.Elements.{All-head}
-use Rattle.ds_base.specs.declared.value.Seq.{Seq}
 use Rattle.ds_base.specs.declared.value.Stamp.{Stamp}
 use Rattle.ds_cell.specs.Content.{Rises, AllAbove}
 use Rattle.ds_kind.specs.Asks.{flags_at, has_proper_span, is_end, is_reverse_scan, fits_all, acts}
@@ -15,10 +14,10 @@ use Rattle.ds_kind.specs.declared.batch.Batch.{Batch}
 use Rattle.ds_kind.specs.declared.batch.Item.{Item}
 use Rattle.ds_kind.specs.declared.name.KindName.TheVariants as Name
 use Rattle.ds_kind.specs.declared.request.Request.{Request}
-use Rattle.ds_kind.specs.declared.request.Request.TheVariants.{Get, Scan, ReverseScan, Put, ConditionalPut, InitPut, Increment, Delete, DeleteRange, EndTxn, QueryIntent, ResolveIntent, ResolveIntentRange, AdminSplit, AdminTransferLease}
+use Rattle.ds_kind.specs.declared.request.Request.TheVariants.{Get, Scan, ReverseScan, Put, ConditionalPut, InitPut, Increment, Delete, DeleteRange, EndTxn}
 use Rattle.ds_legal.specs.Legal.{IsLegal}
 use Rattle.ds_legal.proofs.GroupFacts.{groups_joined, groups_each}
-use Rattle.ds_rule.specs.Asking.{Asking, numbered}
+use Rattle.ds_rule.specs.Asking.{Asking}
 use Rattle.ds_rule.specs.Pieces.{position_of}
 use Rattle.ds_send.specs.Batch.{is_built, is_built_request, is_plain_read, is_value_write}
 use Rattle.ds_send.specs.Sent.{IsSendable, IsWholeSendable}

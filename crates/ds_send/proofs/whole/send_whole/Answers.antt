@@ -17,7 +17,7 @@ pub returns-in-Failed : goal.returns-in-Failed
 returns-in-Failed g c =
     subst (DidOnce c.args.budget c.args.asked.now (g.W.Wire.state c.args.wire.now) (g.W.Wire.state c.one_try.new.wire)) (sym c.outcome_of.ensures)
     (then-failed c.args.budget c.args.asked.now (g.W.Wire.state c.args.wire.now) (g.W.Wire.state c.tries.wire) (g.W.Wire.state c.one_try.new.wire)
-      c.tries.tries.refused c.tries.tries.lost c.in-Failed.failure c.tries.invariant.vain (rw c.in-Failed.is at c.in_ok-replies.ensures))
+    c.tries.tries.refused c.tries.tries.lost c.in-Failed.failure c.tries.invariant.vain (rw c.in-Failed.is at c.in_ok-replies.ensures))
 
 pub returns-in-TooWide : goal.returns-in-TooWide
 returns-in-TooWide g c =
