@@ -1,11 +1,11 @@
 -- What one batch comes to, and what its steps were.
-use Rattle.std.specs.Prelude.{◌≡◌, ℕ, ◌+◌, ◌≤◌, Bool, true, false, ◌&&◌, List, [], ◌∷◌, ◌++◌, Option, Some, None, is_some}
+use Rattle.std.specs.Prelude.{◌≡◌, ℕ, ◌+◌, ◌≤◌, Bool, true, false, ◌&&◌, List, [], ◌∷◌, ◌++◌, Option, Some, None, is_some, ◌<◌, ◌⊎◌, not, length, if◌then◌else◌, refl, pos}
 use Rattle.std.specs.List.{list_any, list_all}
 use Rattle.ds_base.specs.Order.{key_lt, key_le, IsKey}
 use Rattle.ds_base.specs.declared.value.Stamp.{Stamp}
 use Rattle.ds_desc.specs.declared.desc.RangeDesc.{RangeDesc}
-use Rattle.ds_kind.specs.Asks.{is_reverse_scan, has_proper_span}
-use Rattle.ds_kind.specs.Parts.{requests_of}
+use Rattle.ds_kind.specs.Asks.{is_reverse_scan, has_proper_span, flags_at, is_end}
+use Rattle.ds_kind.specs.Parts.{requests_of, all_fit}
 use Rattle.ds_kind.specs.Request.{cut_to}
 use Rattle.ds_kind.specs.declared.batch.Batch.{Batch}
 use Rattle.ds_kind.specs.declared.batch.Item.{Item}
@@ -20,19 +20,27 @@ use Rattle.ds_cell.specs.Store.{Asker, Store}
 use Rattle.ds_rule.specs.declared.answer.Outcome.{Outcome}
 use Rattle.ds_rule.specs.declared.answer.Outcome.TheVariants as Outcome
 use Rattle.ds_rule.specs.Asking.{Asking, asking}
-use Rattle.ds_rule.specs.Cause.{Trip, LastFails, CauseOf, WholeCauseOf}
+use Rattle.ds_rule.specs.Cause.{Trip, LastFails, CauseOf, WholeCauseOf, LastLost, LastServes, TooWide, IsHeldBack, IsWholeOf}
 use Rattle.ds_rule.specs.Clauses.{Stands}
 use Rattle.ds_rule.specs.Gathered.{IsBody, Joins}
-use Rattle.ds_rule.specs.Journal.{Happening, Accepted}
+use Rattle.ds_rule.specs.Journal.{Happening, Accepted, Moved, Did as Stepped}
 use Rattle.ds_rule.specs.Law.{Did, DidWhole, IsGiven, IsPlainFor, IsQuiet, LeadsTo, MayAct, PlainCause}
 use Rattle.ds_rule.specs.Path.{Path}
-use Rattle.ds_rule.specs.Pieces.{Each, position_of}
+use Rattle.ds_rule.specs.Pieces.{Each, position_of, IsOneOf}
 use Rattle.ds_rule.specs.StandsFor.{StandsFor, Ready}
 use Rattle.ds_send.specs.declared.pieces.Went.{Went}
 use Rattle.ds_send.specs.declared.pieces.Went.TheVariants as Went
 use Rattle.ds_send.specs.declared.requests.Got.{Got}
 use Rattle.ds_send.specs.declared.requests.Got.TheVariants as Got
 use Rattle.ds_send.specs.declared.tries.Tries.{Tries}
+use Rattle.ds_base.specs.declared.value.Value.TheVariants.{Int}
+use Rattle.ds_kind.specs.declared.batch.Piece.{Piece}
+use Rattle.ds_kind.specs.declared.request.Request.{Request}
+use Rattle.ds_kind.specs.declared.request.Request.TheVariants.{Get, Put}
+use Rattle.ds_rule.specs.declared.answer.Answer.TheVariants as Answer
+use Rattle.ds_rule.specs.declared.journal.JournalStep.TheVariants.{Look, Send}
+use Rattle.ds_send.specs.declared.whole.Tried.{Tried}
+use Rattle.ds_send.specs.declared.whole.Tried.TheVariants as Tried
 
 abbrev pub outcome_of : Failure → Outcome
 outcome_of (Failure.Condition i v) = Outcome.ConditionFailed i v
@@ -80,10 +88,8 @@ pub record Answered (q : Asking) (a b : Stands) (i : Item) (s e : List ℕ) (ref
 -- it failed on the way
 pub record FailedOn (q : Asking) (a b : Stands) (f : Failure) : Type 0 where
   pub got : List Accepted
-  pub refused : ℕ
-  pub lost : ℕ
-  pub trip : Trip q a b got refused lost
-  pub last : LastFails f trip.path.added
+  pub path : Path q a b got
+  pub last : LastFails f path.added
 
 pub record Stopped (q : Asking) (a b : Stands) (refused lost : ℕ) : Type 0 where
   pub got : List Accepted
@@ -113,12 +119,117 @@ GotBy q a b i s e old new (Got.Body body) = AnsweredBy q a b i s e old new body
 GotBy q a b i s e old new (Got.Failed f) = FailedOn q a b f
 GotBy q a b i s e old new Got.Exhausted = StoppedBy q a b old new
 
+-- a batch in one piece
+
+-- a batch that a sender can send in one piece: it has requests, their positions rise, each has a proper span, none goes in
+-- reverse or ends the transaction, and they may stand together
+pub record IsWholeSendable (q : Asking) : Type 0 where
+  pub some : 0 < length q.items
+  pub rising : Rises position_of q.items
+  pub proper : list_all has_proper_span (requests_of q.items) ≡ true
+  pub forward : list_any is_reverse_scan (requests_of q.items) ≡ false
+  pub endless : list_any is_end (requests_of q.items) ≡ false
+  pub fit : all_fit (requests_of q.items) ≡ true
+
+-- a write that does harm where it is done twice
+abbrev pub is_risky : Request → Bool
+is_risky r = (flags_at r).write && not (flags_at r).repeatable
+
+abbrev pub any_risky : List Item → Bool
+any_risky items = list_any (λ i. is_risky i.request) items
+
+a_put_is_risky : is_risky (Put (record { key = 97 ∷ []; value = Int (pos 7) })) ≡ true
+a_put_is_risky = refl
+
+a_get_is_not : is_risky (Get (record { key = 97 ∷ [] })) ≡ false
+a_get_is_not = refl
+
+-- it is no send that was lost
+abbrev pub IsTold : Happening → Type 0
+IsTold (Moved e) = Unit {0}
+IsTold (Stepped (Look k d l)) = Unit {0}
+IsTold (Stepped (Send n p (Answer.Done rs))) = Unit {0}
+IsTold (Stepped (Send n p (Answer.Failed f))) = Unit {0}
+IsTold (Stepped (Send n p (Answer.Refused r))) = Unit {0}
+IsTold (Stepped (Send n p Answer.Lost)) = ⊥
+
+-- no send was lost, but perhaps one that was the last thing that happened
+pub record ToldButLast (hs : List Happening) : Type 0 where
+  pub before : List Happening
+  pub told : Each IsTold before
+  pub later : List Happening
+  pub one : length later ≤ 1
+  pub is : hs ≡ before ++ later
+
+-- a batch stays ambiguous where its record was found committed, with no commit of its own lost; or where it does harm
+-- twice and its one send was lost
+abbrev pub AmbiguousBy : Asking → List Happening → Outcome → Type 0
+AmbiguousBy q hs (Outcome.Ambiguous n) = ((n ≡ 0) × LastFails Failure.Committed hs) ⊎ ((n ≡ 1) × (any_risky q.items ≡ true) × LastLost hs)
+AmbiguousBy q hs o = Unit {0}
+
+-- what a call did in one piece; where a request does harm twice, nothing was done after a send that was lost
+pub record DidOnce (budget : ℕ) (q : Asking) (a b : Stands) (o : Outcome) : Type 0 where
+  pub did : DidWhole budget q a b o
+  pub once : any_risky q.items ≡ true → ToldButLast did.path.added
+  pub ambiguous : AmbiguousBy q did.path.added o
+
+-- the whole batch was tried in vain; where a request does harm twice, no send was lost
+pub record InVain (q : Asking) (a b : Stands) (refused lost : ℕ) : Type 0 where
+  pub got : List Accepted
+  pub trip : Trip q a b got refused lost
+  pub held : IsHeldBack q trip.path.added
+  pub told : any_risky q.items ≡ true → Each IsTold trip.path.added
+
+-- it was tried once, and served
+pub record ServedOnce (q : Asking) (a b : Stands) (replies : List Reply) : Type 0 where
+  pub got : List Accepted
+  pub trip : Trip q a b got 0 0
+  pub whole : Each (IsWholeOf q) trip.path.added
+  pub told : any_risky q.items ≡ true → Each IsTold trip.path.added
+  pub last : LastServes q replies trip.path.added
+
+-- it failed
+pub record FailedOnce (q : Asking) (a b : Stands) (f : Failure) : Type 0 where
+  pub vain : InVain q a b 0 0
+  pub last : LastFails f vain.trip.path.added
+
+-- the route was too narrow
+pub record WideOnce (q : Asking) (a b : Stands) (desc : RangeDesc) : Type 0 where
+  pub got : List Accepted
+  pub trip : Trip q a b got 0 0
+  pub told : any_risky q.items ≡ true → Each IsTold trip.path.added
+  pub wide : TooWide q desc trip.path.added
+
+-- it was sent and lost
+pub record LostOnce (q : Asking) (a b : Stands) : Type 0 where
+  pub got : List Accepted
+  pub trip : Trip q a b got 0 1
+  pub held : IsHeldBack q trip.path.added
+  pub before : List Happening
+  pub told : any_risky q.items ≡ true → Each IsTold before
+  pub node : ℕ
+  pub piece : Piece
+  pub last : trip.path.added ≡ before ++ Stepped (Send node piece Answer.Lost) ∷ []
+
+abbrev pub CameOf : Asking → Stands → Stands → Tried → Type 0
+CameOf q a b (Tried.Done replies) = ServedOnce q a b replies
+CameOf q a b (Tried.Failed f) = FailedOnce q a b f
+CameOf q a b (Tried.TooWide desc) = WideOnce q a b desc
+CameOf q a b Tried.Refused = InVain q a b 1 0
+CameOf q a b Tried.LookLost = InVain q a b 0 1
+CameOf q a b Tried.SendLost = LostOnce q a b
+
+-- so far, with these tries left
+pub record Trying (budget : ℕ) (q : Asking) (a b : Stands) (t : Tries) : Type 0 where
+  pub vain : InVain q a b t.refused t.lost
+  pub sum : (t.refused + t.lost) + t.left ≡ budget
+
 -- a consistent batch without a transaction is sent in one piece
 abbrev pub is_whole : Batch → Bool
 is_whole b = is_some b.at && b.consistent
 
 abbrev pub SentBy : Bool → ℕ → Asking → Stands → Stands → Outcome → Type 0
-SentBy true budget q a b o = DidWhole budget q a b o
+SentBy true budget q a b o = DidOnce budget q a b o
 SentBy false budget q a b o = Did budget q a b o
 
 -- a batch that breaks a rule gets the first such rule, and nothing is done

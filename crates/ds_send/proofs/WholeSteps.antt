@@ -1,0 +1,254 @@
+-- A batch that is sent in one piece.
+use Rattle.std.proofs.Common.{◌≡◌, ℕ, ◌+◌, Bool, true, false, List, [], ◌∷◌, ◌++◌, map, inl, inr, refl, sym, ap, ◌∙◌, subst, append_assoc}
+use Rattle.std.specs.List.{list_all}
+use Rattle.ds_base.specs.Order.{Extent, key_lt}
+use Rattle.ds_base.specs.declared.value.Dir.TheVariants.{Forward}
+use Rattle.ds_base.proofs.KeyOrder.{and_first, and_second, below-after}
+use Rattle.ds_desc.specs.Contains.{contains}
+use Rattle.ds_desc.specs.declared.desc.Info.{Info}
+use Rattle.ds_desc.specs.declared.meta.Looked.TheVariants as Looked
+use Rattle.ds_desc.specs.declared.refusal.Refusal.{Refusal}
+use Rattle.ds_kind.specs.Asks.{has_proper_span}
+use Rattle.ds_kind.specs.Parts.{requests_of}
+use Rattle.ds_kind.specs.Request.{cut_to, span_of}
+use Rattle.ds_kind.specs.declared.batch.Item.{Item}
+use Rattle.ds_kind.specs.declared.batch.Piece.{Piece}
+use Rattle.ds_kind.specs.declared.reply.Failure.{Failure}
+use Rattle.ds_kind.specs.declared.reply.Reply.{Reply}
+use Rattle.ds_kind.specs.declared.request.Request.{Request}
+use Rattle.ds_kind.specs.declared.request.Request.TheVariants.{Get, Scan, ReverseScan, Put, ConditionalPut, InitPut, Increment, Delete, DeleteRange, EndTxn, QueryIntent, ResolveIntent, ResolveIntentRange, AdminSplit, AdminTransferLease}
+use Rattle.ds_rule.specs.declared.answer.Answer.{Answer}
+use Rattle.ds_rule.specs.declared.answer.Answer.TheVariants.{Done, Failed, Refused, Lost}
+use Rattle.ds_rule.specs.declared.event.Event.{Event}
+use Rattle.ds_rule.specs.declared.journal.JournalStep.{JournalStep}
+use Rattle.ds_rule.specs.declared.journal.JournalStep.TheVariants.{Look, Send}
+use Rattle.ds_rule.specs.Asking.{Asking}
+use Rattle.ds_rule.specs.Cause.{Trip, IsWholeOf, IsWholeStep, IsIdle, whole_span, holds_span, refusals_of, losses_of}
+use Rattle.ds_rule.specs.Clauses.{Stands, Steps}
+use Rattle.ds_rule.specs.Journal.{Happening, Moved, Did, Accepted, accepted_by}
+use Rattle.ds_rule.specs.Path.{IsStepOf}
+use Rattle.ds_rule.specs.Pieces.{Each, IsOneOf, IsCut, PieceOf}
+use Rattle.ds_rule.proofs.Routes.{le_itself}
+use Rattle.ds_rule.proofs.Trips.{each-append, trip-none, trip-step, trip-then, step-added, then-added, none-added}
+use Rattle.ds_send.specs.Sent.{IsWholeSendable, IsTold, InVain, ServedOnce, FailedOnce, WideOnce, LostOnce, any_risky}
+use Rattle.ds_send.proofs.Cuts.{goes-forward}
+
+-- the whole batch is a piece of itself
+
+pub proper-below : (r : Request) → has_proper_span r ≡ true → key_lt (span_of r).start (span_of r).end ≡ true
+proper-below (Get a) h = below-after a.key
+proper-below (Scan a) h = h
+proper-below (ReverseScan a) h = h
+proper-below (Put a) h = below-after a.key
+proper-below (ConditionalPut a) h = below-after a.key
+proper-below (InitPut a) h = below-after a.key
+proper-below (Increment a) h = below-after a.key
+proper-below (Delete a) h = below-after a.key
+proper-below (DeleteRange a) h = h
+proper-below (EndTxn a) h = below-after a.key
+proper-below (QueryIntent a) h = below-after a.key
+proper-below (ResolveIntent a) h = below-after a.key
+proper-below (ResolveIntentRange a) h = h
+proper-below (AdminSplit a) h = below-after a.key
+proper-below (AdminTransferLease a) h = below-after a.key
+
+cut-whole : (r : Request) → r ≡ cut_to (span_of r).start (span_of r).end r
+cut-whole (Get a) = refl
+cut-whole (Scan a) = refl
+cut-whole (ReverseScan a) = refl
+cut-whole (Put a) = refl
+cut-whole (ConditionalPut a) = refl
+cut-whole (InitPut a) = refl
+cut-whole (Increment a) = refl
+cut-whole (Delete a) = refl
+cut-whole (DeleteRange a) = refl
+cut-whole (EndTxn a) = refl
+cut-whole (QueryIntent a) = refl
+cut-whole (ResolveIntent a) = refl
+cut-whole (ResolveIntentRange a) = refl
+cut-whole (AdminSplit a) = refl
+cut-whole (AdminTransferLease a) = refl
+
+each-cut : (whole items : List Item) → ((i : Item) → IsOneOf i items → IsOneOf i whole) → list_all has_proper_span (requests_of items) ≡ true → Each (IsCut whole) items
+each-cut whole [] there h = tt
+each-cut whole (i ∷ is) there h = (
+  record {
+    whole = i;
+    there = there i (inl refl);
+    position = refl;
+    number = refl;
+    request = cut-whole i.request;
+    some = proper-below i.request (and_first (has_proper_span i.request) _ h);
+    from = le_itself (span_of i.request).start;
+    to = le_itself (span_of i.request).end;
+  },
+  each-cut whole is (λ j one. there j (inr one)) (and_second (has_proper_span i.request) _ h),
+)
+
+pub whole-piece : (q : Asking) (range : ℕ) → IsWholeSendable q → PieceOf q q.head.left (record { head = q.head; range = range; items = q.items; dir = Forward })
+whole-piece q range send = record {
+  head = refl;
+  some = send.some;
+  rising = send.rising;
+  cuts = each-cut q.items q.items (λ i one. one) send.proper;
+  fit = send.fit;
+  ends = λ h. let never : true ≡ false = sym h ∙ send.endless in cc;
+  dir = goes-forward q.items q.items send.forward;
+}
+
+-- one step
+
+each-step : (P : Happening → Type 0) → ((e : Event) → P (Moved e)) → (ms : List Event) (s : JournalStep) → P (Did s) → Each P (map Moved ms ++ Did s ∷ [])
+each-step P moved [] s here = (here, tt)
+each-step P moved (m ∷ ms) s here = (moved m, each-step P moved ms s here)
+
+each-moved : (P : Happening → Type 0) → ((e : Event) → P (Moved e)) → (ms : List Event) → Each P (map Moved ms)
+each-moved P moved [] = tt
+each-moved P moved (m ∷ ms) = (moved m, each-moved P moved ms)
+
+step-each : (P : Happening → Type 0) → ((e : Event) → P (Moved e)) → (q : Asking) (a b : Stands) (s : JournalStep) (of : IsStepOf q s) (st : Steps a b s) → P (Did s) → Each P (trip-step q a b s of st).path.added
+step-each P moved q a b s of st here = subst (Each P) (sym (step-added q a b s of st)) (each-step P moved st.moves s here)
+
+pub in-vain : (q : Asking) (a b : Stands) (s : JournalStep) → IsStepOf q s → IsWholeStep q s → IsIdle (Did s) → (any_risky q.items ≡ true → IsTold (Did s)) → Steps a b s → InVain q a b (refusals_of s) (losses_of s)
+in-vain q a b s of whole idle told st = record {
+  got = accepted_by s;
+  trip = trip-step q a b s of st;
+  held = (step-each (IsWholeOf q) (λ e. tt) q a b s of st whole, step-each IsIdle (λ e. tt) q a b s of st idle);
+  told = λ once. step-each IsTold (λ e. tt) q a b s of st (told once);
+}
+
+pub then-each : (P : Happening → Type 0) (q : Asking) (a b c : Stands) (got more : List Accepted) (r1 l1 r2 l2 : ℕ) (v : Trip q a b got r1 l1) (w : Trip q b c more r2 l2) → Each P v.path.added → Each P w.path.added → Each P (trip-then q a b c got more r1 l1 r2 l2 v w).path.added
+then-each P q a b c got more r1 l1 r2 l2 v w x y = subst (Each P) (sym (then-added q a b c got more r1 l1 r2 l2 v w)) (each-append P v.path.added w.path.added x y)
+
+-- one after the other
+
+pub none-tried : (q : Asking) (a : Stands) → InVain q a a 0 0
+none-tried q a = record {
+  got = [];
+  trip = trip-none q a;
+  held = (subst (Each (IsWholeOf q)) (sym (none-added q a)) tt, subst (Each IsIdle) (sym (none-added q a)) tt);
+  told = λ once. subst (Each IsTold) (sym (none-added q a)) tt;
+}
+
+pub vain-then : (q : Asking) (a b c : Stands) (r1 l1 r2 l2 : ℕ) → InVain q a b r1 l1 → InVain q b c r2 l2 → InVain q a c (r1 + r2) (l1 + l2)
+vain-then q a b c r1 l1 r2 l2 v w = record {
+  got = v.got ++ w.got;
+  trip = trip-then q a b c v.got w.got r1 l1 r2 l2 v.trip w.trip;
+  held = (
+    then-each (IsWholeOf q) q a b c v.got w.got r1 l1 r2 l2 v.trip w.trip v.held.0 w.held.0,
+    then-each IsIdle q a b c v.got w.got r1 l1 r2 l2 v.trip w.trip v.held.1 w.held.1,
+  );
+  told = λ once. then-each IsTold q a b c v.got w.got r1 l1 r2 l2 v.trip w.trip (v.told once) (w.told once);
+}
+
+-- what is last stays last
+pub after-all : (hs before ks : List Happening) (h : Happening) (xs : List Happening) → ks ≡ before ++ h ∷ [] → xs ≡ hs ++ ks → xs ≡ (hs ++ before) ++ h ∷ []
+after-all hs before ks h xs e f = f ∙ ap (λ zs. hs ++ zs) e ∙ sym (append_assoc hs before (h ∷ []))
+
+pub vain-added : (q : Asking) (a b c : Stands) (r1 l1 r2 l2 : ℕ) (v : InVain q a b r1 l1) (w : InVain q b c r2 l2) → (vain-then q a b c r1 l1 r2 l2 v w).trip.path.added ≡ v.trip.path.added ++ w.trip.path.added
+unfolding vain-then
+vain-added q a b c r1 l1 r2 l2 v w = then-added q a b c v.got w.got r1 l1 r2 l2 v.trip w.trip
+
+in-vain-added : (q : Asking) (a b : Stands) (s : JournalStep) (of : IsStepOf q s) (whole : IsWholeStep q s) (idle : IsIdle (Did s)) (told : any_risky q.items ≡ true → IsTold (Did s)) (st : Steps a b s) → (in-vain q a b s of whole idle told st).trip.path.added ≡ map Moved st.moves ++ Did s ∷ []
+unfolding in-vain
+in-vain-added q a b s of whole idle told st = step-added q a b s of st
+
+-- one try: a lookup, and the whole batch sent
+
+-- what a test of a span says of the batch's
+pub holds-whole : (d s w : Extent) (t u : Bool) → s ≡ w → t ≡ holds_span d s → t ≡ u → holds_span d w ≡ u
+holds-whole d s w t u same is e = ap (holds_span d) (sym same) ∙ sym is ∙ e
+
+pub look-lost : (q : Asking) (a b : Stands) (k : List ℕ) → Steps a b (Look k Forward Looked.Lost) → InVain q a b 0 1
+look-lost q a b k st = in-vain q a b (Look k Forward Looked.Lost) tt tt tt (λ once. tt) st
+
+look-found : (q : Asking) (a b : Stands) (k : List ℕ) (i : Info) (rest : List Info) → holds_span i.desc.span (whole_span q.items) ≡ true → Steps a b (Look k Forward (Looked.Rows (i ∷ rest))) → InVain q a b 0 0
+look-found q a b k i rest holds st = in-vain q a b (Look k Forward (Looked.Rows (i ∷ rest))) tt holds tt (λ once. tt) st
+
+pub wide-once : (q : Asking) (a b : Stands) (i : Info) (rest : List Info) → Steps a b (Look (whole_span q.items).start Forward (Looked.Rows (i ∷ rest))) → contains Forward (whole_span q.items).start i.desc.span ≡ true → holds_span i.desc.span (whole_span q.items) ≡ false → WideOnce q a b i.desc
+wide-once q a b i rest st first wide = record {
+  got = [];
+  trip = trip-step q a b (Look (whole_span q.items).start Forward (Looked.Rows (i ∷ rest))) tt st;
+  told = λ once. step-each IsTold (λ e. tt) q a b (Look (whole_span q.items).start Forward (Looked.Rows (i ∷ rest))) tt st tt;
+  wide = record {
+    before = map Moved st.moves;
+    idle = each-moved IsIdle (λ e. tt) st.moves;
+    whole = each-moved (IsWholeOf q) (λ e. tt) st.moves;
+    row = i;
+    rest = rest;
+    last = step-added q a b (Look (whole_span q.items).start Forward (Looked.Rows (i ∷ rest))) tt st;
+    desc_is = refl;
+    contains_first = first;
+    too_wide = wide;
+  };
+}
+
+-- a route that holds the batch's span, and the whole batch sent to its node
+pub record Goes (q : Asking) (a b c : Stands) (n : ℕ) (p : Piece) (x : Answer) : Type 0 where
+  pub found : InVain q a b 0 0
+  pub of : PieceOf q q.head.left p
+  pub whole : (p.head ≡ q.head) × (p.items ≡ q.items)
+  pub sends : Steps b c (Send n p x)
+
+pub goes : (q : Asking) (a b c : Stands) (k : List ℕ) (i : Info) (rest : List Info) (n range : ℕ) (p : Piece) (x y : Answer) → IsWholeSendable q → holds_span i.desc.span (whole_span q.items) ≡ true → Steps a b (Look k Forward (Looked.Rows (i ∷ rest))) → p ≡ record { head = q.head; range = range; items = q.items; dir = Forward } → Steps b c (Send n p x) → x ≡ y → Goes q a b c n p y
+goes q a b c k i rest n range p x y send holds look is sends same = record {
+  found = look-found q a b k i rest holds look;
+  of = subst (PieceOf q q.head.left) (sym is) (whole-piece q range send);
+  whole = (ap (λ p. p.head) is, ap (λ p. p.items) is);
+  sends = subst (λ x. Steps b c (Send n p x)) same sends;
+}
+
+pub refused-once : (q : Asking) (a b c : Stands) (n : ℕ) (p : Piece) (r : Refusal) → Goes q a b c n p (Refused r) → InVain q a c 1 0
+refused-once q a b c n p r g = vain-then q a b c 0 0 1 0 g.found (in-vain q b c (Send n p (Refused r)) g.of g.whole tt (λ once. tt) g.sends)
+
+pub failed-once : (q : Asking) (a b c : Stands) (n : ℕ) (p : Piece) (f : Failure) → Goes q a b c n p (Failed f) → FailedOnce q a c f
+failed-once q a b c n p f g =
+    let s = Send n p (Failed f) in
+    let w = in-vain q b c (Send n p (Failed f)) g.of g.whole tt (λ once. tt) g.sends in
+    record {
+      vain = vain-then q a b c 0 0 0 0 g.found w;
+      last = record {
+        before = g.found.trip.path.added ++ map Moved g.sends.moves;
+        node = n;
+        piece = p;
+        last = after-all g.found.trip.path.added (map Moved g.sends.moves) w.trip.path.added (Did s) _ (in-vain-added q b c s g.of g.whole tt (λ once. tt) g.sends) (vain-added q a b c 0 0 0 0 g.found w);
+      };
+    }
+
+pub served-once : (q : Asking) (a b c : Stands) (n : ℕ) (p : Piece) (rs : List Reply) → Goes q a b c n p (Done rs) → ServedOnce q a c rs
+served-once q a b c n p rs g =
+    let s = Send n p (Done rs) in
+    let v = g.found in
+    let w = trip-step q b c s g.of g.sends in
+    record {
+      got = v.got ++ accepted_by s;
+      trip = trip-then q a b c v.got (accepted_by s) 0 0 0 0 v.trip w;
+      whole = then-each (IsWholeOf q) q a b c v.got (accepted_by s) 0 0 0 0 v.trip w v.held.0 (step-each (IsWholeOf q) (λ e. tt) q b c s g.of g.sends g.whole);
+      told = λ once. then-each IsTold q a b c v.got (accepted_by s) 0 0 0 0 v.trip w (v.told once) (step-each IsTold (λ e. tt) q b c s g.of g.sends tt);
+      last = record {
+        before = v.trip.path.added ++ map Moved g.sends.moves;
+        idle = each-append IsIdle v.trip.path.added (map Moved g.sends.moves) v.held.1 (each-moved IsIdle (λ e. tt) g.sends.moves);
+        node = n;
+        piece = p;
+        last = after-all v.trip.path.added (map Moved g.sends.moves) w.path.added (Did s) _ (step-added q b c s g.of g.sends) (then-added q a b c v.got (accepted_by s) 0 0 0 0 v.trip w);
+      };
+    }
+
+pub lost-once : (q : Asking) (a b c : Stands) (n : ℕ) (p : Piece) → Goes q a b c n p Lost → LostOnce q a c
+lost-once q a b c n p g =
+    let s = Send n p Lost in
+    let v = g.found in
+    let w = trip-step q b c s g.of g.sends in
+    record {
+      got = v.got ++ [];
+      trip = trip-then q a b c v.got [] 0 0 0 1 v.trip w;
+      held = (
+        then-each (IsWholeOf q) q a b c v.got [] 0 0 0 1 v.trip w v.held.0 (step-each (IsWholeOf q) (λ e. tt) q b c s g.of g.sends g.whole),
+        then-each IsIdle q a b c v.got [] 0 0 0 1 v.trip w v.held.1 (step-each IsIdle (λ e. tt) q b c s g.of g.sends tt),
+      );
+      before = v.trip.path.added ++ map Moved g.sends.moves;
+      told = λ once. each-append IsTold v.trip.path.added (map Moved g.sends.moves) (v.told once) (each-moved IsTold (λ e. tt) g.sends.moves);
+      node = n;
+      piece = p;
+      last = after-all v.trip.path.added (map Moved g.sends.moves) w.path.added (Did s) _ (step-added q b c s g.of g.sends) (then-added q a b c v.got [] 0 0 0 1 v.trip w);
+    }
