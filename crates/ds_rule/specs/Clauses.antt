@@ -1,10 +1,11 @@
 -- What a wire stands for, and what one call adds to it.
-use Rattle.std.specs.Prelude.{◌≡◌, ℕ, ◌<◌, ◌≤◌, ◌%◌, true, List, [], ◌∷◌, ◌++◌, map, Result, Ok, Err, refl}
+use Rattle.std.specs.Prelude.{◌≡◌, ℕ, ◌<◌, ◌≤◌, ◌%◌, Bool, true, false, List, [], ◌∷◌, ◌++◌, map, Result, Ok, Err, refl}
 use Rattle.std.specs.declared.alloc.AllocError.{AllocError}
 use Rattle.ds_base.specs.Order.{key_lt, bound}
 use Rattle.ds_base.specs.declared.value.Dir.{Dir}
 use Rattle.ds_desc.specs.Counts.{Rose}
 use Rattle.ds_desc.specs.declared.meta.Looked.{Looked}
+use Rattle.ds_desc.specs.declared.meta.Looked.TheVariants as Looked
 use Rattle.ds_kind.specs.declared.batch.Piece.{Piece}
 use Rattle.ds_rule.specs.declared.answer.Answer.{Answer}
 use Rattle.ds_rule.specs.declared.answer.Answer.TheVariants.{Done, Failed, Refused, Lost}

@@ -1,5 +1,5 @@
 -- How replies are made of what the pieces were answered.
-use Rattle.std.specs.Prelude.{◌≡◌, ℕ, Bool, true, List, [], ◌∷◌, None, ◌==◌, filter, if◌then◌else◌}
+use Rattle.std.specs.Prelude.{◌≡◌, ℕ, Bool, true, false, List, [], ◌∷◌, Option, None, ◌==◌, filter, if◌then◌else◌, refl}
 use Rattle.ds_base.specs.Order.{key_lt}
 use Rattle.ds_kind.specs.Flags.{flags_of}
 use Rattle.ds_kind.specs.Request.{cut_to, kind_of, span_of}

@@ -1,8 +1,9 @@
 -- What a sender did in one call, for every wire.
-use Rattle.std.specs.Prelude.{◌≡◌, ℕ, List, ◌++◌}
+use Rattle.std.specs.Prelude.{◌≡◌, ℕ, List, [], ◌∷◌, ◌++◌}
 use Rattle.ds_desc.specs.Counts.{Rose}
 use Rattle.ds_rule.specs.declared.journal.JournalStep.{JournalStep}
 use Rattle.ds_rule.specs.declared.journal.JournalStep.TheVariants.{Look, Send}
+use Rattle.ds_rule.specs.declared.event.Event.{Event}
 use Rattle.ds_rule.specs.Asking.{Asking}
 use Rattle.ds_rule.specs.Clauses.{Stands, IsAbove, IsLost}
 use Rattle.ds_rule.specs.Journal.{Happening, Moved, Did, Runs, Accepted, accepted}

@@ -1,5 +1,5 @@
 -- When a world stands for a plain store.
-use Rattle.std.specs.Prelude.{◌≡◌, ℕ, ◌≤◌, ◌⊎◌, List, [], fold, Option, Some, None}
+use Rattle.std.specs.Prelude.{◌≡◌, ℕ, ◌≤◌, ◌<◌, ◌⊎◌, List, [], ◌∷◌, fold, Option, Some, None, refl}
 use Rattle.ds_base.specs.Ordered.{Ascends}
 use Rattle.ds_base.specs.declared.value.TxnNo.{TxnNo}
 use Rattle.ds_kind.specs.declared.batch.Batch.{Batch}
@@ -7,7 +7,7 @@ use Rattle.ds_cell.specs.Ask.{key_of, content_at}
 use Rattle.ds_cell.specs.Change.{made}
 use Rattle.ds_cell.specs.Content.{Content, AllAbove, Rises, stamp_of}
 use Rattle.ds_cell.specs.Seen.{last_of}
-use Rattle.ds_cell.specs.Store.{Store, StoreTxn, Mode, Unknown, Fate, Pending, Committed, Aborted}
+use Rattle.ds_cell.specs.Store.{Store, StoreTxn, Mode, Live, FailedSince, Unknown, OverWith, Fate, Pending, Committed, Aborted}
 use Rattle.ds_rule.specs.declared.record.TxnRecord.{TxnRecord}
 use Rattle.ds_rule.specs.declared.record.RecordStatus.{RecordStatus}
 use Rattle.ds_rule.specs.declared.record.RecordStatus.TheVariants as Status

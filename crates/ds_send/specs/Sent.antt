@@ -88,8 +88,10 @@ pub record Answered (q : Asking) (a b : Stands) (i : Item) (s e : List ℕ) (ref
 -- it failed on the way
 pub record FailedOn (q : Asking) (a b : Stands) (f : Failure) : Type 0 where
   pub got : List Accepted
-  pub path : Path q a b got
-  pub last : LastFails f path.added
+  pub refused : ℕ
+  pub lost : ℕ
+  pub trip : Trip q a b got refused lost
+  pub last : LastFails f trip.path.added
 
 pub record Stopped (q : Asking) (a b : Stands) (refused lost : ℕ) : Type 0 where
   pub got : List Accepted
