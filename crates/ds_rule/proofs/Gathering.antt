@@ -135,9 +135,9 @@ kind-with r (Some a) b k l =
 pub front-more : (i : Item) (s m n : List ℕ) (got : List Accepted) (body : Option Body) (x : Accepted) → Front i s m got body → key_lt m n ≡ true → x.item ≡ record i { request = cut_to m n i.request } → IsBody i.request x.reply.body → Front i s n (got ++ x ∷ []) (Some (join_with i.request body x.reply.body))
 front-more i s m n got body x f low is kind = record {
   goes = λ e more rest j.
-    subst (λ xs. Joins i s e xs (join_bodies (goes_down i.request) (join_with i.request body x.reply.body) rest)) (sym (append_assoc got (x ∷ []) more))
-    (subst (Joins i s e (got ++ x ∷ more)) (sym (assoc-with i.request body x.reply.body rest f.kind kind))
-    (f.goes e (x ∷ more) (join_bodies (goes_down i.request) x.reply.body rest) (n, rest, low, is, j, refl)));
+      subst (λ xs. Joins i s e xs (join_bodies (goes_down i.request) (join_with i.request body x.reply.body) rest)) (sym (append_assoc got (x ∷ []) more))
+      (subst (Joins i s e (got ++ x ∷ more)) (sym (assoc-with i.request body x.reply.body rest f.kind kind))
+      (f.goes e (x ∷ more) (join_bodies (goes_down i.request) x.reply.body rest) (n, rest, low, is, j, refl)));
   kind = kind-with i.request body x.reply.body f.kind kind;
 }
 
@@ -145,7 +145,7 @@ front-more i s m n got body x f low is kind = record {
 pub front-done : (i : Item) (s e : List ℕ) (got : List Accepted) (body : Body) → Front i s e got (Some body) → Joins i s e got body
 front-done i s e got body f =
     let nothing : join_bodies (goes_down i.request) body (body_of i.request []) ≡ body =
-      ap (λ x. join_bodies (goes_down i.request) x (body_of i.request [])) f.kind.is ∙ join-nothing i.request f.kind.bits ∙ sym f.kind.is in
+    ap (λ x. join_bodies (goes_down i.request) x (body_of i.request [])) f.kind.is ∙ join-nothing i.request f.kind.bits ∙ sym f.kind.is in
     subst (Joins i s e got) nothing (subst (λ xs. Joins i s e xs (join_bodies (goes_down i.request) body (body_of i.request []))) (append-nil got) (f.goes e [] (body_of i.request []) (refl, refl)))
 
 -- where the pieces stand
@@ -229,7 +229,7 @@ pub gathers-last : (i : Item) (got more : List Accepted) (reply : Reply) → Eac
 gathers-last i got more reply below whole j = record {
   whole = whole;
   joins = subst (λ xs. Joins i (span_of i.request).start (span_of i.request).end xs reply.body)
-    (sym (ap by_start (at-append i.pos got more ∙ ap (λ xs. xs ++ at_position i.pos more) (at-none i.pos got below) ∙ at-all i.pos more (joins-at i _ _ more reply.body j)) ∙ joins-sorted i _ _ more reply.body j)) j;
+      (sym (ap by_start (at-append i.pos got more ∙ ap (λ xs. xs ++ at_position i.pos more) (at-none i.pos got below) ∙ at-all i.pos more (joins-at i _ _ more reply.body j)) ∙ joins-sorted i _ _ more reply.body j)) j;
 }
 
 -- the requests before it are gathered as they were
@@ -241,9 +241,10 @@ gathered-on n got more (i ∷ is) (r ∷ rs) below at g = (
   record {
     whole = g.0.whole;
     joins = subst (λ xs. Joins i (span_of i.request).start (span_of i.request).end (by_start xs) r.body)
-      (sym (at-append i.pos got more ∙ ap (λ xs. at_position i.pos got ++ xs) (at-others i.pos n more below.0 at) ∙ append-nil (at_position i.pos got))) g.0.joins;
+        (sym (at-append i.pos got more ∙ ap (λ xs. at_position i.pos got ++ xs) (at-others i.pos n more below.0 at) ∙ append-nil (at_position i.pos got))) g.0.joins;
   },
-  gathered-on n got more is rs below.1 at g.1)
+  gathered-on n got more is rs below.1 at g.1,
+)
 
 pub gathered-last : (got : List Accepted) (items : List Item) (i : Item) (rs : List Reply) (r : Reply) → Gathered got items rs → IsGathered got i r → Gathered got (items ++ i ∷ []) (rs ++ r ∷ [])
 gathered-last got [] i [] r g h = (h, tt)

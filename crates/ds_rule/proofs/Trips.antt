@@ -106,40 +106,40 @@ trip-none q a = record {
 
 pub trip-step : (q : Asking) (a b : Stands) (s : JournalStep) → IsStepOf q s → Steps a b s → Trip q a b (accepted_by s) (refusals_of s) (losses_of s)
 trip-step q a b s of st = record {
-    path = record {
-      added = and_step st.moves s;
-      high = step-high a.floor st.moves s st.above;
-      of = step-of q st.moves s of;
-      losses = step-loses (Rose a.lost b.lost) st.moves s st.loses;
-      grown = st.grown;
-      runs = st.runs;
-      floor = st.floor;
-      gives = step-accepted st.moves s;
-    };
-    refusals = step-refused st.moves s;
-    losses = step-lost st.moves s;
-    rises = st.lost;
-  }
+  path = record {
+    added = and_step st.moves s;
+    high = step-high a.floor st.moves s st.above;
+    of = step-of q st.moves s of;
+    losses = step-loses (Rose a.lost b.lost) st.moves s st.loses;
+    grown = st.grown;
+    runs = st.runs;
+    floor = st.floor;
+    gives = step-accepted st.moves s;
+  };
+  refusals = step-refused st.moves s;
+  losses = step-lost st.moves s;
+  rises = st.lost;
+}
 
 pub trip-then : (q : Asking) (a b c : Stands) (got more : List Accepted) (r1 l1 r2 l2 : ℕ) → Trip q a b got r1 l1 → Trip q b c more r2 l2 → Trip q a c (got ++ more) (r1 + r2) (l1 + l2)
 trip-then q a b c got more r1 l1 r2 l2 v w =
     let x = v.path in
     let y = w.path in
     record {
-        path = record {
-          added = x.added ++ y.added;
-          high = each-append (IsHigh a.floor) x.added y.added x.high (subst (λ f. Each (IsHigh f) y.added) x.floor y.high);
-          of = each-append (IsOf q) x.added y.added x.of y.of;
-          losses = each-append (LosesOnly (Rose a.lost c.lost)) x.added y.added
+      path = record {
+        added = x.added ++ y.added;
+        high = each-append (IsHigh a.floor) x.added y.added x.high (subst (λ f. Each (IsHigh f) y.added) x.floor y.high);
+        of = each-append (IsOf q) x.added y.added x.of y.of;
+        losses = each-append (LosesOnly (Rose a.lost c.lost)) x.added y.added
             (loses-more x.added (Rose a.lost b.lost) (Rose a.lost c.lost) (λ h. rose-left a.lost b.lost c.lost h w.rises) x.losses)
             (loses-more y.added (Rose b.lost c.lost) (Rose a.lost c.lost) (λ h. rose-right a.lost b.lost c.lost v.rises w.rises h) y.losses);
-          grown = y.grown ∙ ap (λ hs. hs ++ y.added) x.grown ∙ append_assoc a.past x.added y.added;
-          runs = runs-append a.world b.world c.world x.added y.added x.runs y.runs;
-          floor = y.floor ∙ x.floor;
-          gives = accepted-append x.added y.added ∙ ap (λ xs. xs ++ accepted y.added) x.gives ∙ ap (λ xs. got ++ xs) y.gives;
-        };
-        refusals = refused-append x.added y.added ∙ ap (λ n. n + refused_in y.added) v.refusals ∙ ap (λ n. r1 + n) w.refusals;
-        losses = lost-append x.added y.added ∙ ap (λ n. n + lost_in y.added) v.losses ∙ ap (λ n. l1 + n) w.losses;
+        grown = y.grown ∙ ap (λ hs. hs ++ y.added) x.grown ∙ append_assoc a.past x.added y.added;
+        runs = runs-append a.world b.world c.world x.added y.added x.runs y.runs;
+        floor = y.floor ∙ x.floor;
+        gives = accepted-append x.added y.added ∙ ap (λ xs. xs ++ accepted y.added) x.gives ∙ ap (λ xs. got ++ xs) y.gives;
+      };
+      refusals = refused-append x.added y.added ∙ ap (λ n. n + refused_in y.added) v.refusals ∙ ap (λ n. r1 + n) w.refusals;
+      losses = lost-append x.added y.added ∙ ap (λ n. n + lost_in y.added) v.losses ∙ ap (λ n. l1 + n) w.losses;
       rises = omega (arith, v.rises, w.rises);
     }
 

@@ -93,7 +93,8 @@ one-joins h i r proper answer = (
   proper-some (reach_of i.request) proper,
   sym (ap (λ z. record i { request = z }) (cut-whole i.request)),
   (refl, refl),
-  answer.kind.is ∙ sym (join-nothing i.request answer.kind.bits) ∙ sym (ap (λ b. join_bodies (goes_down i.request) b (body_of i.request [])) answer.kind.is))
+  answer.kind.is ∙ sym (join-nothing i.request answer.kind.bits) ∙ sym (ap (λ b. join_bodies (goes_down i.request) b (body_of i.request [])) answer.kind.is),
+)
 
 at-above : (n : ℕ) (h : Head) (items : List Item) (rs : List Reply) → AllAbove position_of n items → at_position n (pairs h items rs) ≡ []
 at-above n h [] rs all = refl
@@ -107,10 +108,10 @@ one-gathered h before i r is rs below above proper answer =
     let one : Accepted = record { head = h; item = i; reply = r } in
     let more = at_position i.pos (pairs h is rs) in
     let at : at_position i.pos (before ++ one ∷ pairs h is rs) ≡ one ∷ [] =
-      at-append i.pos before (one ∷ pairs h is rs)
-      ∙ ap (λ xs. xs ++ at_position i.pos (one ∷ pairs h is rs)) (at-none i.pos before below)
-      ∙ ap (λ t. cond t (one ∷ more) more) (eq-eqb i.pos i.pos refl)
-      ∙ ap (λ zs. one ∷ zs) (at-above i.pos h is rs above) in
+    at-append i.pos before (one ∷ pairs h is rs)
+    ∙ ap (λ xs. xs ++ at_position i.pos (one ∷ pairs h is rs)) (at-none i.pos before below)
+    ∙ ap (λ t. cond t (one ∷ more) more) (eq-eqb i.pos i.pos refl)
+    ∙ ap (λ zs. one ∷ zs) (at-above i.pos h is rs above) in
     record {
       whole = answer.whole;
       joins = subst (λ xs. Joins i (span_of i.request).start (span_of i.request).end (by_start xs) r.body) (sym at) (one-joins h i r proper answer);
@@ -133,10 +134,11 @@ all-gathered h [] before [] answers rise proper below = tt
 all-gathered h [] before (r ∷ rs) answers rise proper below = absurd answers
 all-gathered h (i ∷ is) before [] answers rise proper below = absurd answers
 all-gathered h (i ∷ is) before (r ∷ rs) answers rise proper below =
-    let one : Accepted = record { head = h; item = i; reply = r } in
-    (one-gathered h before i r is rs below.0 rise.0 (and_first (has_proper_span i.request) _ proper) answers.0,
+    let one : Accepted = record { head = h; item = i; reply = r } in (
+      one-gathered h before i r is rs below.0 rise.0 (and_first (has_proper_span i.request) _ proper) answers.0,
       subst (λ g. Gathered g is rs) (append_assoc before (one ∷ []) (pairs h is rs))
-      (all-gathered h is (before ++ one ∷ []) rs answers.1 rise.1 (and_second (has_proper_span i.request) _ proper) (below-more before one is below.1 rise.0)))
+          (all-gathered h is (before ++ one ∷ []) rs answers.1 rise.1 (and_second (has_proper_span i.request) _ proper) (below-more before one is below.1 rise.0)),
+    )
 
 idle-accepts : (hs : List Happening) → Each IsIdle hs → accepted hs ≡ []
 idle-accepts [] all = refl
@@ -156,11 +158,11 @@ whole-gathered q a b replies got path rise proper whole last =
     let here = (each-right (IsWholeOf q) last.before step (subst (Each (IsWholeOf q)) last.last whole)).0 in
     let answers : Answers q.items replies = subst (λ is. Answers is replies) here.1 (asked-all last.piece.head last.piece.items s.range.cells s.cells s.writes replies s.gives) in
     let same : pairs q.head q.items replies ≡ got =
-      ap (λ h. pairs h q.items replies) (sym here.0)
-      ∙ ap (λ is. pairs last.piece.head is replies) (sym here.1)
-      ∙ sym (append-nil (pairs last.piece.head last.piece.items replies))
-      ∙ ap (λ xs. xs ++ accepted step) (sym (idle-accepts last.before last.idle))
-      ∙ sym (accepted-append last.before step)
-      ∙ ap accepted (sym last.last)
-      ∙ path.gives in
+    ap (λ h. pairs h q.items replies) (sym here.0)
+    ∙ ap (λ is. pairs last.piece.head is replies) (sym here.1)
+    ∙ sym (append-nil (pairs last.piece.head last.piece.items replies))
+    ∙ ap (λ xs. xs ++ accepted step) (sym (idle-accepts last.before last.idle))
+    ∙ sym (accepted-append last.before step)
+    ∙ ap accepted (sym last.last)
+    ∙ path.gives in
     subst (λ g. Gathered g q.items replies) same (all-gathered q.head q.items [] replies answers rise proper (below-none q.items))

@@ -63,11 +63,11 @@ all-more q a b c done replies budget now new i body before so by =
     record {
       got = so.got ++ more;
       trip = subst (λ r. Trip q a c (so.got ++ more) r new.lost) (sym by.spent.refused_more)
-        (subst (λ l. Trip q a c (so.got ++ more) (now.refused + by.refused) l) (sym by.spent.lost_more)
-        (trip-then q a b c so.got more now.refused now.lost by.refused by.lost so.trip by.answered.trip));
+          (subst (λ l. Trip q a c (so.got ++ more) (now.refused + by.refused) l) (sym by.spent.lost_more)
+          (trip-then q a b c so.got more now.refused now.lost by.refused by.lost so.trip by.answered.trip));
       gathered = gathered-last (so.got ++ more) done i replies (record { body = body; resume = None })
-        (gathered-on i.pos so.got more done replies before at so.gathered)
-        (gathers-last i so.got more (record { body = body; resume = None }) (so.below i.pos before) refl by.answered.joins);
+          (gathered-on i.pos so.got more done replies before at so.gathered)
+          (gathers-last i so.got more (record { body = body; resume = None }) (so.below i.pos before) refl by.answered.joins);
       below = λ n all. each-append (IsBelowPosition n) so.got more (so.below n (each-left (λ j. j.pos < n) done (i ∷ []) all)) (at-below n i.pos more (each-last (λ j. j.pos < n) done i all) at);
       sum = (let x = by.spent.refused_more in let y = by.spent.lost_more in let z = by.spent.left_less in let s = so.sum in omega (arith, x, y, z, s));
     }

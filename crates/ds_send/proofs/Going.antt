@@ -71,7 +71,6 @@ pub sent-refused : (q : Asking) (a b c : Stands) (k : List ℕ) (infos : List In
 sent-refused q a b c k infos n p x r look send is of =
     trip-then q a b c [] [] 0 0 1 0 (found-look q a b k infos look) (trip-step q b c (Send n p (Refused r)) of (subst (λ x. Steps b c (Send n p x)) is send))
 
-
 pub sent-failed : (q : Asking) (a b c : Stands) (k : List ℕ) (infos : List Info) (n : ℕ) (p : Piece) (x : Answer) (f : Failure) → Steps a b (Look k Forward (Looked.Rows infos)) → Steps b c (Send n p x) → x ≡ Failed f → PieceOf q q.head.left p → FailedAt q a c f
 sent-failed q a b c k infos n p x f look send is of =
     let st : Steps b c (Send n p (Failed f)) = subst (λ x. Steps b c (Send n p x)) is send in
@@ -83,8 +82,8 @@ sent-failed q a b c k infos n p x f look send is of =
         node = n;
         piece = p;
         last = then-added q a b c [] [] 0 0 0 0 first (trip-step q b c (Send n p (Failed f)) of st)
-          ∙ ap (λ hs. first.path.added ++ hs) (step-added q b c (Send n p (Failed f)) of st)
-          ∙ sym (append_assoc first.path.added (map Moved st.moves) (Did (Send n p (Failed f)) ∷ []));
+            ∙ ap (λ hs. first.path.added ++ hs) (step-added q b c (Send n p (Failed f)) of st)
+            ∙ sym (append_assoc first.path.added (map Moved st.moves) (Did (Send n p (Failed f)) ∷ []));
       };
     }
 

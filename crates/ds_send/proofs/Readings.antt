@@ -40,11 +40,12 @@ and-second : (a b : Bool) → (a && b) ≡ true → b ≡ true
 and-second true b h = h
 and-second false b h = cc
 
-reads-proper : (n last : ℕ) (rs : List Request) → list_all is_get_or_scan rs ≡ true → list_all has_proper_span rs ≡ true → Each IsProperRead (items_from n rs (numbers_from last rs))
+pub reads-proper : (n last : ℕ) (rs : List Request) → list_all is_get_or_scan rs ≡ true → list_all has_proper_span rs ≡ true → Each IsProperRead (items_from n rs (numbers_from last rs))
 reads-proper n last [] read proper = tt
 reads-proper n last (r ∷ rs) read proper = (
   both-read r (and-first (is_get_or_scan r) _ read) (and-first (has_proper_span r) _ proper) n _,
-  reads-proper (n + 1) (next_number last r) rs (and-second (is_get_or_scan r) _ read) (and-second (has_proper_span r) _ proper))
+  reads-proper (n + 1) (next_number last r) rs (and-second (is_get_or_scan r) _ read) (and-second (has_proper_span r) _ proper),
+)
 
 long-items : (n last : ℕ) (rs : List Request) → length (items_from n rs (numbers_from last rs)) ≡ length rs
 long-items n last [] = refl
@@ -72,7 +73,7 @@ plain-reads (AdminTransferLease a) h = cc
 and-both : (a b : Bool) → a ≡ true → b ≡ true → (a && b) ≡ true
 and-both a b p q = ap (λ t. t && b) p ∙ q
 
-all-plain : (rs : List Request) → list_all is_plain_read rs ≡ true → list_all is_get_or_scan rs ≡ true
+pub all-plain : (rs : List Request) → list_all is_plain_read rs ≡ true → list_all is_get_or_scan rs ≡ true
 all-plain [] h = refl
 all-plain (r ∷ rs) h = and-both (is_get_or_scan r) _ (plain-reads r (and-first (is_plain_read r) _ h)) (all-plain rs (and-second (is_plain_read r) _ h))
 

@@ -125,7 +125,7 @@ so-on q a b c i s m e k old now body more forward so on = record {
   spent = same-spent old now so.refused so.lost (so.refused + 0) (so.lost + 0) (omega arith) (omega arith) so.spent;
   trip = trip-then q a b c so.got (on.served ∷ []) so.refused so.lost 0 0 so.trip on.trip;
   front = subst (λ z. Front i s k (so.got ++ on.served ∷ []) (Some z)) (ap (join_with i.request body) on.body_is ∙ with-forward i.request body more forward)
-    (front-more i s m k so.got body on.served so.front on.on on.item (subst (λ z. IsBody i.request z) (sym on.body_is) on.kind));
+      (front-more i s m k so.got body on.served so.front on.on on.item (subst (λ z. IsBody i.request z) (sym on.body_is) on.kind));
   fresh = λ h. none_some (join_forward body more) h;
 }
 

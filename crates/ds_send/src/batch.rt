@@ -39,9 +39,7 @@ fn is_built_request(at: Option<Stamp>, request: &Request) -> bool
 fn all_built(at: Option<Stamp>, requests: &[Request]) -> bool
     ensures { result ≡ list_all (is_built_request at) requests.now }
 {
-    requests
-        .iter()
-        .all(|request| is_built_request(at, request))
+    requests.iter().all(|request| is_built_request(at, request))
 }
 
 /// Whether each is a get or a scan that goes forward.

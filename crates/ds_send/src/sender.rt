@@ -28,12 +28,7 @@ pub struct Sender {
 }
 
 /// The batch with the numbers of its requests, after the last number given.
-fn numbered(
-    alloc: Global,
-    head: Head,
-    legal: &Legal<'_>,
-    last: Seq,
-) -> Result<Asked, AllocError>
+fn numbered(alloc: Global, head: Head, legal: &Legal<'_>, last: Seq) -> Result<Asked, AllocError>
     requires { last.0 ≤ 4000000000 }
     ensures { IfOk result (λ a. a ≡ numbered head last.0 legal.now) }
 {
@@ -49,11 +44,7 @@ fn numbered(
 
 /// The batch as it is asked: with a stamp as a transaction of its own, without one as the open
 /// transaction's.
-fn asked_by(
-    alloc: Global,
-    txn: Option<Txn>,
-    legal: &Legal<'_>,
-) -> Result<Option<Asked>, AllocError>
+fn asked_by(alloc: Global, txn: Option<Txn>, legal: &Legal<'_>) -> Result<Option<Asked>, AllocError>
     requires { IsOpenFor legal.now.at (asker_in txn) }
     ensures { IfOk result (λ o. o ≡ asking (asker_in txn) legal.now) }
 {

@@ -42,8 +42,8 @@ pieces-preserved-in-On g c =
     let o = rw c.in-On.is at c.in_ok-stop.ensures in
     record {
       so = subst (λ b. SoFar c.args.asked.now (g.W.Wire.state c.args.wire.now) (g.W.Wire.state c.one_piece.new.wire) c.args.item.now c.args.start.now c.in-On.stop c.args.tries.now c.pieces.tries (Some b)) (sym c.in_ok-join-in-On.ensures)
-        (so-on c.args.asked.now (g.W.Wire.state c.args.wire.now) (g.W.Wire.state c.pieces.wire) (g.W.Wire.state c.one_piece.new.wire) c.args.item.now c.args.start.now c.pieces.at c.args.end.now c.in-On.stop c.args.tries.now c.pieces.tries c.pieces.body c.in-On.more
-        (one-forward c.args.item.now c.args.asked.now.items c.requires.one_of c.requires.sendable.forward) c.pieces.invariant.so o);
+          (so-on c.args.asked.now (g.W.Wire.state c.args.wire.now) (g.W.Wire.state c.pieces.wire) (g.W.Wire.state c.one_piece.new.wire) c.args.item.now c.args.start.now c.pieces.at c.args.end.now c.in-On.stop c.args.tries.now c.pieces.tries c.pieces.body c.in-On.more
+          (one-forward c.args.item.now c.args.asked.now.items c.requires.one_of c.requires.sendable.forward) c.pieces.invariant.so o);
       within = o.within;
       from = le_trans c.args.start.now c.pieces.at c.in-On.stop c.pieces.invariant.from (le_of_lt c.pieces.at c.in-On.stop o.on);
       at_key = o.key;

@@ -61,8 +61,8 @@ requests-preserved g c =
     let more : c.push.new.self ≡ c.requests.replies ++ record { body = c.in-Body.body; resume = None } ∷ [] = search rules in
     let by = rw c.in-Body.is at c.in_ok-body.ensures in
     let by' : AnsweredBy q b d i (span_of i.request).start (span_of i.request).end c.requests.tries c.all_pieces.new.tries c.in-Body.body =
-      subst (λ s. AnsweredBy q b d i s (span_of i.request).end c.requests.tries c.all_pieces.new.tries c.in-Body.body) c.in_ok-start.ensures
-      (subst (λ e. AnsweredBy q b d i c.in_ok-start.start e c.requests.tries c.all_pieces.new.tries c.in-Body.body) c.in_ok-end.ensures by) in
+    subst (λ s. AnsweredBy q b d i s (span_of i.request).end c.requests.tries c.all_pieces.new.tries c.in-Body.body) c.in_ok-start.ensures
+    (subst (λ e. AnsweredBy q b d i c.in_ok-start.start e c.requests.tries c.all_pieces.new.tries c.in-Body.body) c.in_ok-end.ensures by) in
     subst (λ ys. AllSoFar q a d (take (c.requests.item-index + 1) ys) c.push.new.self c.args.budget c.all_pieces.new.tries) (sym items)
     (all-next q a b d q.items c.requests.item-index c.requests.replies c.push.new.self c.args.budget c.requests.tries c.all_pieces.new.tries i c.in-Body.body c.requires.rising low is more
     (subst (λ ys. AllSoFar q a b (take c.requests.item-index ys) c.requests.replies c.args.budget c.requests.tries) items c.requests.invariant) by')
