@@ -1,2 +1,5 @@
+pub mod Answering
+pub mod AskedLine
 pub mod Blocks
 pub mod Readiness
+pub mod Staying

@@ -29,8 +29,8 @@ is_quiet b = (length b.events == 0) && (length b.picks == 0)
 
 -- beside an open transaction a batch is its own, or reads below its stamp
 abbrev pub may_stand_by : ℕ → Option Stamp → List Request → Bool
-may_stand_by open None rs = true
-may_stand_by open (Some s) rs = nat_lt s.0 open && list_all Sends.is_plain_read rs
+may_stand_by t None rs = true
+may_stand_by t (Some s) rs = nat_lt s.0 t && list_all Sends.is_plain_read rs
 
 -- a batch of a form that is built
 abbrev pub is_sent : Batch → Block → Bool

@@ -1,0 +1,164 @@
+-- What one batch of a replay came to.
+use Rattle.std.proofs.Common.{◌≡◌, ℕ, ◌+◌, ◌<◌, ◌≤◌, Bool, true, false, cond, ◌&&◌, List, [], ◌∷◌, ◌++◌, map, length, filter, Option, Some, None, is_some, is_none, inl, inr, refl, sym, ap, ◌∙◌, subst, arith}
+use Rattle.std.specs.List.{list_all}
+use Rattle.std.specs.Option.{option_map}
+use Rattle.ds_base.specs.declared.value.Stamp.{Stamp}
+use Rattle.ds_base.specs.declared.value.TxnNo.{TxnNo}
+use Rattle.ds_desc.specs.Counts.{Rose}
+use Rattle.ds_kind.specs.declared.batch.Batch.{Batch}
+use Rattle.ds_kind.specs.declared.illegal.Illegal.{Illegal}
+use Rattle.ds_kind.specs.declared.reply.Failure.TheVariants as Failure
+use Rattle.ds_legal.specs.Legal.{IsLegal}
+use Rattle.ds_cell.specs.Store.{Asker, Store, StoreTxn, Fate, Pending}
+use Rattle.ds_rule.specs.declared.answer.Outcome.{Outcome}
+use Rattle.ds_rule.specs.declared.answer.Outcome.TheVariants as Outcome
+use Rattle.ds_rule.specs.declared.journal.JournalStep.{JournalStep}
+use Rattle.ds_rule.specs.Asking.{Asking, asking}
+use Rattle.ds_rule.specs.Blocks.{BlockPlays}
+use Rattle.ds_rule.specs.Cause.{CauseOf, WholeCauseOf}
+use Rattle.ds_rule.specs.Clauses.{Stands}
+use Rattle.ds_rule.specs.Gathered.{Gathered}
+use Rattle.ds_rule.specs.Journal.{Happening, Did as Stepped, Runs, Accepted, accepted}
+use Rattle.ds_rule.specs.Law.{Did, DidWhole, IsGiven, IsPlainFor, IsQuiet, LeadsTo, MayAct, IsReading}
+use Rattle.ds_rule.specs.Path.{Path, IsOf, LosesOnly}
+use Rattle.ds_rule.specs.Pieces.{Each}
+use Rattle.ds_rule.specs.Plain.{is_pending}
+use Rattle.ds_rule.specs.StandsFor.{StandsFor, Ready}
+use Rattle.ds_rule.proofs.NeverDoubtful.{NoMove, never-ended}
+use Rattle.ds_rule.proofs.Recorded.{Pends}
+use Rattle.ds_rule.proofs.WholeGathered.{whole-gathered}
+use Rattle.ds_script.specs.Journals.{Asks, BatchGathers, InOnePiece, accepted_in, sees_one_state}
+use Rattle.ds_send.specs.Sent.{DidOnce, IsWholeSendable, PlainIf, WasQuiet, is_whole}
+use Rattle.ds_replay.specs.Asked.{begun_block}
+use Rattle.ds_replay.proofs.Blocks.{never-rose, quiet-steps, steps-play, steps-made, steps-still, steps-accepted, one-served}
+
+-- its answer is no doubt
+abbrev pub IsSure : Outcome → Type 0
+IsSure (Outcome.Ambiguous lost) = ⊥
+IsSure o = Unit {0}
+
+-- what a batch's block was, for a store
+pub record Came (a mid : Stands) (asks : Asks) (p : Store) (b : Batch) (q : Asking) (steps : List JournalStep) (o : Outcome) : Type 0 where
+  pub lead : LeadsTo a mid p b o
+  pub plays : BlockPlays q 1 [] a.world steps mid.world
+  pub gathers : BatchGathers asks b steps o
+  pub sure : b.at ≡ None → IsSure o
+
+gather-each : (budget : ℕ) (asks : Asks) (b : Batch) (q : Asking) (hs : List Happening) (got : List Accepted) (steps : List JournalStep) (o : Outcome) → asking asks.asker b ≡ Some q → sees_one_state b ≡ false → got ≡ accepted_in steps → CauseOf budget q hs got o → BatchGathers asks b steps o
+gather-each budget asks b q hs got steps (Outcome.Ok rs) is apart same c = (q, is, subst (λ xs. Gathered xs q.items rs) same c, subst (λ t. InOnePiece t steps) (sym apart) tt)
+gather-each budget asks b q hs got steps (Outcome.Illegal i) is apart same c = tt
+gather-each budget asks b q hs got steps (Outcome.MustRollBack n) is apart same c = tt
+gather-each budget asks b q hs got steps (Outcome.TxnOver s) is apart same c = tt
+gather-each budget asks b q hs got steps (Outcome.OpRequiresTxn d) is apart same c = tt
+gather-each budget asks b q hs got steps (Outcome.NotOnePhase d) is apart same c = tt
+gather-each budget asks b q hs got steps (Outcome.ConditionFailed i v) is apart same c = tt
+gather-each budget asks b q hs got steps (Outcome.WriteTooOld i k s) is apart same c = tt
+gather-each budget asks b q hs got steps (Outcome.NotInteger i) is apart same c = tt
+gather-each budget asks b q hs got steps (Outcome.Overflow i) is apart same c = tt
+gather-each budget asks b q hs got steps Outcome.TxnAborted is apart same c = tt
+gather-each budget asks b q hs got steps (Outcome.Ambiguous n) is apart same c = tt
+gather-each budget asks b q hs got steps (Outcome.RetryExhausted r l) is apart same c = tt
+gather-each budget asks b q hs got steps Outcome.OutOfMemory is apart same c = tt
+
+gather-whole : (budget : ℕ) (asks : Asks) (b : Batch) (q : Asking) (x y : Stands) (got : List Accepted) (path : Path q x y got) (steps : List JournalStep) (o : Outcome) → asking asks.asker b ≡ Some q → sees_one_state b ≡ true → IsWholeSendable q → got ≡ accepted_in steps → path.added ≡ map Stepped steps → WholeCauseOf budget q path.added o → BatchGathers asks b steps o
+gather-whole budget asks b q x y got path steps (Outcome.Ok rs) is one send same added c = (
+  q, is,
+  subst (λ xs. Gathered xs q.items rs) same (whole-gathered q x y rs got path send.rising send.proper c.0 c.1),
+  subst (λ t. InOnePiece t steps) (sym one) (one-served q rs steps path.added added c.1))
+gather-whole budget asks b q x y got path steps (Outcome.Illegal i) is one send same added c = tt
+gather-whole budget asks b q x y got path steps (Outcome.MustRollBack n) is one send same added c = tt
+gather-whole budget asks b q x y got path steps (Outcome.TxnOver s) is one send same added c = tt
+gather-whole budget asks b q x y got path steps (Outcome.OpRequiresTxn d) is one send same added c = tt
+gather-whole budget asks b q x y got path steps (Outcome.NotOnePhase d) is one send same added c = tt
+gather-whole budget asks b q x y got path steps (Outcome.ConditionFailed i v) is one send same added c = tt
+gather-whole budget asks b q x y got path steps (Outcome.WriteTooOld i k s) is one send same added c = tt
+gather-whole budget asks b q x y got path steps (Outcome.NotInteger i) is one send same added c = tt
+gather-whole budget asks b q x y got path steps (Outcome.Overflow i) is one send same added c = tt
+gather-whole budget asks b q x y got path steps Outcome.TxnAborted is one send same added c = tt
+gather-whole budget asks b q x y got path steps (Outcome.Ambiguous n) is one send same added c = tt
+gather-whole budget asks b q x y got path steps (Outcome.RetryExhausted r l) is one send same added c = tt
+gather-whole budget asks b q x y got path steps Outcome.OutOfMemory is one send same added c = tt
+
+-- what a path between two states of the cluster is
+
+record Block (q : Asking) (x y : Stands) (got : List Accepted) (steps : List JournalStep) : Type 0 where
+  path : Path q x y got
+  added : path.added ≡ map Stepped steps
+
+block-quiet : (q : Asking) (x y : Stands) (got : List Accepted) (steps : List JournalStep) → x.lost ≡ 0 → y.lost ≡ 0 → Block q x y got steps → Each IsQuiet (map Stepped steps)
+block-quiet q x y got steps none still bl =
+    quiet-steps (Rose x.lost y.lost) steps (λ r. never-rose (subst (λ m. Rose 0 m) still (subst (λ n. Rose n y.lost) none r)))
+    (subst (Each (LosesOnly (Rose x.lost y.lost))) bl.added bl.path.losses)
+
+block-plays : (q : Asking) (x y : Stands) (got : List Accepted) (steps : List JournalStep) → x.lost ≡ 0 → y.lost ≡ 0 → Block q x y got steps → BlockPlays q 1 [] x.world steps y.world
+block-plays q x y got steps none still bl =
+    steps-play q 1 steps x.world y.world (subst (Each (IsOf q)) bl.added bl.path.of) (block-quiet q x y got steps none still bl) (subst (λ hs. Runs x.world hs y.world) bl.added bl.path.runs)
+
+block-got : (q : Asking) (x y : Stands) (got : List Accepted) (steps : List JournalStep) → Block q x y got steps → got ≡ accepted_in steps
+block-got q x y got steps bl = sym bl.path.gives ∙ ap accepted bl.added ∙ steps-accepted steps
+
+sure-each : (budget : ℕ) (b : Batch) (q : Asking) (x y : Stands) (p : Store) (o : Outcome) (did : Did budget q x y o) → IsReading b q → Each NoMove did.path.added → Ready x p b q → Pends q.head.txn p.txn → IsSure o
+sure-each budget b q x y p (Outcome.Ambiguous n) did reading still ready pend = never-ended b q x y p Failure.Committed did.got reading did.path still ready pend did.cause
+sure-each budget b q x y p (Outcome.Ok rs) did reading still ready pend = tt
+sure-each budget b q x y p (Outcome.Illegal i) did reading still ready pend = tt
+sure-each budget b q x y p (Outcome.MustRollBack n) did reading still ready pend = tt
+sure-each budget b q x y p (Outcome.TxnOver s) did reading still ready pend = tt
+sure-each budget b q x y p (Outcome.OpRequiresTxn d) did reading still ready pend = tt
+sure-each budget b q x y p (Outcome.NotOnePhase d) did reading still ready pend = tt
+sure-each budget b q x y p (Outcome.ConditionFailed i v) did reading still ready pend = tt
+sure-each budget b q x y p (Outcome.WriteTooOld i k s) did reading still ready pend = tt
+sure-each budget b q x y p (Outcome.NotInteger i) did reading still ready pend = tt
+sure-each budget b q x y p (Outcome.Overflow i) did reading still ready pend = tt
+sure-each budget b q x y p Outcome.TxnAborted did reading still ready pend = tt
+sure-each budget b q x y p (Outcome.RetryExhausted r l) did reading still ready pend = tt
+sure-each budget b q x y p Outcome.OutOfMemory did reading still ready pend = tt
+
+-- sent request by request
+pub came-each : (budget : ℕ) (asks : Asks) (b : Batch) (q : Asking) (x y : Stands) (p : Store) (steps : List JournalStep) (o : Outcome) → x.past ≡ [] → x.lost ≡ 0 → y.lost ≡ 0 → y.past ≡ map Stepped steps → asking asks.asker b ≡ Some q → is_whole b ≡ false → IsReading b q → Ready x p b q → Pends q.head.txn p.txn → Did budget q x y o → IsPlainFor x y b q o → Came x y asks p b q steps o
+came-each budget asks b q x y p steps o start none still past is apart reading ready pend did plain =
+    let added = sym (did.path.grown ∙ ap (λ hs. hs ++ did.path.added) start) ∙ past in
+    let bl : Block q x y did.got steps = record { path = did.path; added = added } in
+    record {
+      lead = plain p ready;
+      plays = block-plays q x y did.got steps none still bl;
+      gathers = gather-each budget asks b q did.path.added did.got steps o is apart (block-got q x y did.got steps bl) did.cause;
+      sure = λ at. sure-each budget b q x y p o did reading (subst (Each NoMove) (sym added) (steps-still steps)) ready pend;
+    }
+
+no-stamp : (at : Option Stamp) (t : Bool) → (is_some at && t) ≡ true → at ≡ None → ⊥
+no-stamp None t h e = cc
+no-stamp (Some s) t h e = cc
+
+-- sent in one piece
+pub came-whole : (budget : ℕ) (asks : Asks) (b : Batch) (q : Asking) (x y : Stands) (p : Store) (steps : List JournalStep) (o : Outcome) → x.past ≡ [] → x.lost ≡ 0 → y.lost ≡ 0 → y.past ≡ map Stepped steps → asking asks.asker b ≡ Some q → is_whole b ≡ true → IsWholeSendable q → Ready x p b q → MayAct p q → DidOnce budget q x y o → PlainIf true x y b q o → Came x y asks p b q steps o
+came-whole budget asks b q x y p steps o start none still past is one send ready may once plain =
+    let did = once.did in
+    let added = sym (did.path.grown ∙ ap (λ hs. hs ++ did.path.added) start) ∙ past in
+    let bl : Block q x y did.got steps = record { path = did.path; added = added } in
+    let quiet = block-quiet q x y did.got steps none still bl in
+    record {
+      lead = (plain p ready may (λ hs grown. subst (Each IsQuiet) (sym (sym (grown ∙ ap (λ zs. zs ++ hs) start) ∙ past)) quiet)).0;
+      plays = block-plays q x y did.got steps none still bl;
+      gathers = gather-whole budget asks b q x y did.got did.path steps o is one send (block-got q x y did.got steps bl) added did.cause;
+      sure = λ at. absurd (no-stamp b.at b.consistent one at);
+    }
+
+nothing-past : (steps : List JournalStep) → [] ≡ map Stepped steps → steps ≡ []
+nothing-past [] h = refl
+nothing-past (s ∷ ss) h = cc
+
+-- a batch that breaks a rule
+pub came-illegal : (asks : Asks) (b : Batch) (q : Asking) (x y : Stands) (p : Store) (steps : List JournalStep) (i : Illegal) (o : Outcome) → x.past ≡ [] → y.past ≡ map Stepped steps → y ≡ x → o ≡ Outcome.Illegal i → LeadsTo x y p b o → Came x y asks p b q steps o
+came-illegal asks b q x y p steps i o start past same is lead =
+    let none = nothing-past steps (sym start ∙ sym (ap (λ z. z.past) same) ∙ past) in
+    record {
+      lead = lead;
+      plays = subst (λ ss. BlockPlays q 1 [] x.world ss y.world) (sym none) (ap (λ z. z.world) same);
+      gathers = subst (λ o. BatchGathers asks b steps o) (sym is) tt;
+      sure = λ at. subst IsSure (sym is) tt;
+    }
+
+-- a pending transaction is pending for whoever asks
+pub pends-any : (n : Option TxnNo) (t : StoreTxn) → t.fate ≡ Pending → Pends n (Some t)
+pends-any None t h = tt
+pends-any (Some n) t h = ap is_pending h
