@@ -40,7 +40,7 @@ is_sent b block = Sends.is_built b && is_quiet block
 abbrev pub next_stage : Stage → Line → Option Stage
 next_stage Start (Line.Cluster c) = if is_cluster c.ranges then Some Closed else None
 next_stage Start l = None
-next_stage Closed (Line.Write k s v) = if key_lt k bound then Some Closed else None
+next_stage Closed (Line.Write k s v) = if key_lt k bound && nat_lt 0 s.0 then Some Closed else None
 next_stage Closed (Line.Begin s k) = Some (Open s.0)
 next_stage Closed (Line.Batch b block) = if is_some b.at && is_sent b block then Some Closed else None
 next_stage Closed l = None

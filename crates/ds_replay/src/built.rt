@@ -1,5 +1,5 @@
 //! Which scripts are built so far.
-ghost use Rattle.std.specs.Prelude.{◌≡◌, option_map};
+ghost use Rattle.std.specs.Prelude.{◌≡◌, option_map, Some, None, if◌then◌else◌};
 ghost use Rattle.std.specs.List.{list_all};
 ghost use Rattle.ds_base.specs.Order.{key_lt, bound};
 ghost use Rattle.ds_send.specs.Batch as Sends;
@@ -67,7 +67,9 @@ fn after_closed(line: &Line) -> Option<Form>
     ensures { option_map form_stage result ≡ next_stage Closed line.now }
 {
     match line {
-        Line::Write { key, .. } => only_if(key.is_below_bound(), Form::Closed),
+        Line::Write { key, stamp, .. } => {
+            only_if(key.is_below_bound() && 0 < stamp.0, Form::Closed)
+        }
         Line::Begin { stamp, .. } => Some(Form::Open(*stamp)),
         Line::Batch { batch, block } => {
             only_if(batch.at.is_some() && is_sent(batch, block), Form::Closed)

@@ -3,9 +3,7 @@
 
 mod asking;
 mod built;
-
-
+mod lines;
 mod state;
 
 pub use built::first_unbuilt;
-
