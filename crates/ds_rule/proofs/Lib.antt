@@ -5,6 +5,7 @@ pub mod Failing
 pub mod Gathering
 pub mod Joining
 pub mod Kept
+pub mod Lifetime
 pub mod NeverDoubtful
 pub mod Puts
 pub mod Quiet

@@ -167,7 +167,7 @@ above-after : (n : ℕ) (t : TxnRecord) (ts : List TxnRecord) → n < record_num
 above-after n t [] h all = (h, tt)
 above-after n t (u ∷ us) h all = (h, above-after n u us all.0 all.1)
 
-above-with_last : (n : ℕ) (ts : List TxnRecord) → AllAbove record_number n ts → AllAbove record_number n (with_last aborted ts)
+pub above-with_last : (n : ℕ) (ts : List TxnRecord) → AllAbove record_number n ts → AllAbove record_number n (with_last aborted ts)
 above-with_last n [] all = tt
 above-with_last n (t ∷ ts) all = above-after n t ts all.0 all.1
 
@@ -175,7 +175,7 @@ rises-after : (t : TxnRecord) (ts : List TxnRecord) → AllAbove record_number (
 rises-after t [] all r = (tt, tt)
 rises-after t (u ∷ us) all r = (above-after (record_number t) u us all.0 all.1, rises-after u us r.0 r.1)
 
-rises-last : (ts : List TxnRecord) → Rises record_number ts → Rises record_number (with_last aborted ts)
+pub rises-last : (ts : List TxnRecord) → Rises record_number ts → Rises record_number (with_last aborted ts)
 rises-last [] r = tt
 rises-last (t ∷ ts) r = rises-after t ts r.0 r.1
 
@@ -183,7 +183,7 @@ up-to-after : (n : ℕ) (t : TxnRecord) (ts : List TxnRecord) → record_number 
 up-to-after n t [] h all = (h, tt)
 up-to-after n t (u ∷ us) h all = (h, up-to-after n u us all.0 all.1)
 
-up-to-last : (n : ℕ) (ts : List TxnRecord) → AllUpTo record_number n ts → AllUpTo record_number n (with_last aborted ts)
+pub up-to-last : (n : ℕ) (ts : List TxnRecord) → AllUpTo record_number n ts → AllUpTo record_number n (with_last aborted ts)
 up-to-last n [] all = tt
 up-to-last n (t ∷ ts) all = up-to-after n t ts all.0 all.1
 
