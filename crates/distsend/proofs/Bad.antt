@@ -5,7 +5,6 @@ use Rattle.std.proofs.lemmas.Bool.Decides.{nat_tests}
 use Rattle.ds_fields.specs.declared.fault.FaultKind.TheVariants.{TooLong}
 use Rattle.ds_script.specs.declared.line.Numbered.{Numbered}
 use Rattle.ds_script.specs.Script.{Fault, script_of}
-use Rattle.ds_replay.specs.Built.{is_built}
 use Rattle.distsend.specs.Texts.{fault_text, unbuilt}
 use Rattle.distsend.specs.Ends.{Answered, Took, IsEnough, IsWhole, IsBad, IsDone, Refused, Faulty, Unbuilt, Replayed, command}
 use Rattle.distsend.specs.declared.status.Status.{Status}
@@ -25,13 +24,13 @@ refuses words s bytes fault (Ok x) status text w e r h m =
 refuses words s bytes fault (Err a) status text w e r h m =
     let P : Status → Type 0 = λ k. Answered k words s text in subst P (sym m.0) m.1
 
--- a script that was read is replayed, or holds a form that isn't built
+-- a script that was read is replayed, or has a line that isn't built
 pub replays : (words : List (List ℕ)) (s : Took) (bytes : List ℕ) (script : List Numbered) (status : Status) (text : List ℕ)
     → words ≡ command → IsWhole s bytes → script_of bytes ≡ Ok script → Replayed script status text → Answered status words s text
 replays words s bytes script Done text w e r h =
-    record { words_are = w; bytes = bytes; whole = e; script = script; accepted = r; built = h.0; log = h.1; text_is = h.2 }
+    record { words_are = w; bytes = bytes; whole = e; script = script; accepted = r; built = h.0; replay = h.1 }
 replays words s bytes script BadScript text w e r h =
-    record { words_are = w; bytes = bytes; enough = (e.0, inl e.1, e.2); fault = unbuilt; refused = Unbuilt script r h.0; text_is = h.1 }
+    record { words_are = w; bytes = bytes; enough = (e.0, inl e.1, e.2); fault = unbuilt h.0; refused = Unbuilt script h.0 r h.1; text_is = h.2 }
 replays words s bytes script Memory text w e r h = h
 replays words s bytes script Usage text w e r h = absurd h
 replays words s bytes script ReadFault text w e r h = absurd h

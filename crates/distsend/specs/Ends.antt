@@ -1,12 +1,14 @@
 -- How a run ends, for each status.
-use Rattle.std.specs.Prelude.{◌≡◌, ◌≢◌, ◌≤◌, ◌<◌, ◌⊎◌, ℕ, Bool, true, false, List, [], ◌∷◌, codes, length, take, Option, Ok, Err}
+use Rattle.std.specs.Prelude.{◌≡◌, ◌≢◌, ◌≤◌, ◌<◌, ◌⊎◌, ℕ, Bool, true, false, List, [], ◌∷◌, codes, length, take, Option, Some, None, Ok, Err}
 use Rattle.std.specs.Io.KnownBytes.{Consumes, Appends, IsAtEnd}
 use Rattle.ds_io.specs.Counts.{Rose}
 use Rattle.ds_rule.specs.declared.journal.Entry.{Entry}
 use Rattle.ds_script.specs.declared.line.Numbered.{Numbered}
+use Rattle.ds_script.specs.Journals.{AllGathered, LegalJournal}
+use Rattle.ds_script.specs.PlainRuns.{PlainRun}
 use Rattle.ds_script.specs.Script.{Fault, script_of}
 use Rattle.ds_text.specs.Log.{text_of}
-use Rattle.ds_replay.specs.Built.{is_built}
+use Rattle.ds_replay.specs.Built.{first_unbuilt}
 use Rattle.distsend.specs.Texts.{fault_text, unbuilt, usage_text}
 use Rattle.distsend.specs.declared.status.Status.{Status}
 use Rattle.distsend.specs.declared.status.Status.TheVariants.{Done, BadScript, Usage, ReadFault, WriteFault, Memory}
@@ -33,25 +35,34 @@ command = codes "replay" ∷ []
 abbrev pub IsWhole : Took → List ℕ → Type 0
 IsWhole s bytes = Consumes s.left s.left_after bytes × IsAtEnd s.left_after × (s.faults_after ≡ s.faults)
 
--- the source gave a script of a form that is built, and the text is that of a log
+-- the text is that of a log, whose journal is one that the cluster allows, whose Ok answers are gathered of what their
+-- pieces were answered, and whose answers are those of one plain store asked the same batches in order
+pub record IsReplay (script : List Numbered) (text : List ℕ) : Type 0 where
+  pub log : List Entry
+  pub legal : LegalJournal script log
+  pub gathered : AllGathered script log
+  pub plain : PlainRun script log
+  pub text_is : text ≡ text_of log
+
+-- the source gave a script of a form that is built, and the text is that of its replay
 pub record IsDone (words : List (List ℕ)) (s : Took) (text : List ℕ) : Type 0 where
   pub words_are : words ≡ command
   pub bytes : List ℕ
   pub whole : IsWhole s bytes
   pub script : List Numbered
   pub accepted : script_of bytes ≡ Ok script
-  pub built : is_built script ≡ true
-  pub log : List Entry
-  pub text_is : text ≡ text_of log
+  pub built : first_unbuilt script ≡ None
+  pub replay : IsReplay script text
 
 -- the bytes were all that the source had, or already too many
 abbrev pub IsEnough : Took → List ℕ → Type 0
 IsEnough s bytes = Consumes s.left s.left_after bytes × (IsAtEnd s.left_after ⊎ (4194304 < length bytes)) × (s.faults_after ≡ s.faults)
 
--- why the bytes are refused: the fault that they have; or they are a script with a form that isn't built
+-- why the bytes are refused: the fault that they have; or they are a script whose first line of a form that isn't built
+-- is this
 pub data Refused (bytes : List ℕ) : Fault → Type 0 where
   Faulty : (f : Fault) → script_of bytes ≡ Err f → Refused bytes f
-  Unbuilt : (script : List Numbered) → script_of bytes ≡ Ok script → is_built script ≡ false → Refused bytes unbuilt
+  Unbuilt : (script : List Numbered) (n : ℕ) → script_of bytes ≡ Ok script → first_unbuilt script ≡ Some n → Refused bytes (unbuilt n)
 
 -- the text names the fault of what the source gave
 pub record IsBad (words : List (List ℕ)) (s : Took) (text : List ℕ) : Type 0 where
@@ -83,10 +94,10 @@ abbrev pub Ends : Status → List (List ℕ) → Took → Put → Type 0
 Ends WriteFault words s k = (status : Status) × (text : List ℕ) × Answered status words s text × PutFront k text
 Ends status words s k = (text : List ℕ) × Answered status words s text × PutWhole k text
 
--- what is put for a script that was read: the text of a log, the fault of a form that isn't built, or nothing
+-- what is put for a script that was read: the text of its replay, the fault of a line that isn't built, or nothing
 abbrev pub Replayed : List Numbered → Status → List ℕ → Type 0
-Replayed script Done text = (is_built script ≡ true) × (log : List Entry) × (text ≡ text_of log)
-Replayed script BadScript text = (is_built script ≡ false) × (text ≡ fault_text unbuilt)
+Replayed script Done text = (first_unbuilt script ≡ None) × IsReplay script text
+Replayed script BadScript text = (n : ℕ) × (first_unbuilt script ≡ Some n) × (text ≡ fault_text (unbuilt n))
 Replayed script Memory text = text ≡ []
 Replayed script Usage text = ⊥
 Replayed script ReadFault text = ⊥

@@ -10,9 +10,9 @@ use Rattle.ds_text.specs.Log.{line_text}
 abbrev pub fault_text : Fault → List ℕ
 fault_text f = line_text (fault_line (kind_text f.kind) f.line)
 
--- a form that isn't built yet
-abbrev pub unbuilt : Fault
-unbuilt = record { line = 0; kind = Shape }
+-- the line is of a form that isn't built yet
+abbrev pub unbuilt : ℕ → Fault
+unbuilt n = record { line = n; kind = Shape }
 
 abbrev pub usage_text : List ℕ
 usage_text = codes "{\"fault\":\"usage\"}\n"

@@ -1,15 +1,13 @@
 //! The top call: from words and bytes to a status and bytes.
-ghost use Rattle.std.specs.Prelude.{◌≡◌, [], map, string_bytes, true, false, IsTrue, ◌↔◌, IfOk, MatchResult, MatchOption, List};
-ghost use Rattle.ds_rule.specs.declared.journal.Entry.{Entry};
-ghost use Rattle.ds_text.specs.Log.{text_of};
-ghost use Rattle.ds_replay.specs.Built.{is_built};
-ghost use Rattle.distsend.specs.Ends.{Answered, Ends, Replayed, command};
+ghost use Rattle.std.specs.Prelude.{◌≡◌, [], map, string_bytes, None, IsTrue, ◌↔◌, IfOk, MatchResult};
+ghost use Rattle.ds_replay.specs.Built.{first_unbuilt};
+ghost use Rattle.distsend.specs.Ends.{Answered, Ends, IsReplay, Replayed, command};
 
 use crate::status::Status;
 use crate::texts::{fault_text, usage_text};
 use ds_base::Text;
 use ds_io::{ReadError, Sink, Source, put_all, read_all};
-use ds_replay::replay;
+use ds_replay::{first_unbuilt, replay};
 use ds_script::{FaultKind, Script, ScriptFault, Settings, read_script};
 use ds_text::text;
 use std::alloc::{AllocError, Global};
@@ -75,32 +73,30 @@ fn is_command(words: &[String]) -> bool
     }
 }
 
-/// The text of the script's log, or `None` where the script holds a form that isn't built.
-fn log_text(alloc: Global, script: &Script) -> Result<Option<Text>, AllocError>
-    ensures { IfOk result (λ o. MatchOption o (is_built script.now.lines ≡ false) (λ t. (is_built script.now.lines ≡ true) × (log : List Entry) × (t ≡ text_of log))) }
+/// The text of the script's replay.
+fn log_text(alloc: Global, script: &Script) -> Result<Text, AllocError>
+    requires { first_unbuilt script.now.lines ≡ None }
+    ensures { IfOk result (λ t. IsReplay script.now.lines t) }
 {
     let settings = Settings {
         cache: 1024,
         budget: 100_000,
     };
-    match replay(alloc, script, settings)? {
-        Some(log) => Ok(Some(text(alloc, &log)?)),
-        None => Ok(None),
-    }
+    let log = replay(alloc, script, settings)?;
+    text(alloc, &log)
 }
 
 /// What is put for a script that was read.
 fn replayed(alloc: Global, script: &Script) -> (Status, Text)
     ensures { Replayed script.now.lines result.0 result.1 }
 {
-    match log_text(alloc, script) {
-        Ok(Some(text)) => (Status::Done, text),
-        Ok(None) => or_memory(
+    match first_unbuilt(script) {
+        None => or_memory(alloc, Status::Done, log_text(alloc, script)),
+        Some(line) => or_memory(
             alloc,
             Status::BadScript,
-            fault_text(alloc, 0, FaultKind::Shape),
+            fault_text(alloc, line, FaultKind::Shape),
         ),
-        Err(_) => (Status::Memory, nothing(alloc)),
     }
 }
 

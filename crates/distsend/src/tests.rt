@@ -109,13 +109,16 @@ fn another_word(rt: HostRuntime) -> Result<(), Fail> {
     Ok(())
 }
 
-const CLUSTER: &str =
-    "{\"op\":\"cluster\",\"nodes\":1,\"ranges\":[{\"start\":\"\",\"nodes\":[1],\"lease\":1}]}";
+const ABORT: &str =
+    "{\"op\":\"cluster\",\"nodes\":1,\"ranges\":[{\"start\":\"\",\"nodes\":[1],\"lease\":1}]}\n\
+    {\"op\":\"begin\",\"stamp\":10,\"key\":\"a\"}\n\
+    {\"op\":\"abort\"}\n\
+    {\"op\":\"close\"}\n";
 
 #[test]
 fn a_form_that_is_not_built(rt: HostRuntime) -> Result<(), Fail> {
-    let (status, held) = answers(rt.alloc(), "replay", CLUSTER.as_bytes())?;
+    let (status, held) = answers(rt.alloc(), "replay", ABORT.as_bytes())?;
     assert_eq!(rt; status, Status::BadScript);
-    assert!(rt; held.as_slice() == b"{\"fault\":\"shape\",\"line\":0}\n".as_slice());
+    assert!(rt; held.as_slice() == b"{\"fault\":\"shape\",\"line\":3}\n".as_slice());
     Ok(())
 }

@@ -62,9 +62,11 @@ gather-each budget asks b q hs got steps Outcome.OutOfMemory is apart same c = t
 
 gather-whole : (budget : ℕ) (asks : Asks) (b : Batch) (q : Asking) (x y : Stands) (got : List Accepted) (path : Path q x y got) (steps : List JournalStep) (o : Outcome) → asking asks.asker b ≡ Some q → sees_one_state b ≡ true → IsWholeSendable q → got ≡ accepted_in steps → path.added ≡ map Stepped steps → WholeCauseOf budget q path.added o → BatchGathers asks b steps o
 gather-whole budget asks b q x y got path steps (Outcome.Ok rs) is one send same added c = (
-  q, is,
+  q,
+  is,
   subst (λ xs. Gathered xs q.items rs) same (whole-gathered q x y rs got path send.rising send.proper c.0 c.1),
-  subst (λ t. InOnePiece t steps) (sym one) (one-served q rs steps path.added added c.1))
+  subst (λ t. InOnePiece t steps) (sym one) (one-served q rs steps path.added added c.1),
+)
 gather-whole budget asks b q x y got path steps (Outcome.Illegal i) is one send same added c = tt
 gather-whole budget asks b q x y got path steps (Outcome.MustRollBack n) is one send same added c = tt
 gather-whole budget asks b q x y got path steps (Outcome.TxnOver s) is one send same added c = tt

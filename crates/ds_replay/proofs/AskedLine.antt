@@ -58,12 +58,12 @@ pub record Owes (a : Stands) (t : Option Asker) (p : Store) (b : Batch) (asks : 
   pub stands : StandsFor a.world p
   pub ready : (q : Asking) → asking t b ≡ Some q → Ready (begun_block a t b) p b q
   pub may : IsLegal b → is_whole b ≡ true → (q : Asking) → asking t b ≡ Some q → MayAct p q
-  pub pends : (q : Asking) → Pends q.head.txn p.txn
+  pub pends : (q : Asking) → asking t b ≡ Some q → Pends q.head.txn p.txn
 
 came-legal : (w : Bool) (a mid c : Stands) (budget : ℕ) (t : Option Asker) (p : Store) (b : Batch) (asks : Asks) (q : Asking) (steps : List JournalStep) (o : Outcome) → Sends.is_built b ≡ true → Owes a t p b asks → first_illegal b ≡ None → is_whole b ≡ w → asking t b ≡ Some q → mid.past ≡ map Stepped steps → mid.lost ≡ 0 → SentBy w budget q (begun_block a t b) mid o → PlainIf w (begun_block a t b) mid b q o → Came (begun_block a t b) mid asks p b q steps o
 came-legal false a mid c budget t p b asks q steps o built owes none w is past still sent plain =
     came-each budget asks b q (begun_block a t b) mid p steps o refl owes.none_lost still past (ap (λ x. asking x b) owes.asker ∙ is) w
-    (reading t b q (legal_of b none) built w is) (owes.ready q is) (owes.pends q) sent plain
+    (reading t b q (legal_of b none) built w is) (owes.ready q is) (owes.pends q is) sent plain
 came-legal true a mid c budget t p b asks q steps o built owes none w is past still sent plain =
     came-whole budget asks b q (begun_block a t b) mid p steps o refl owes.none_lost still past (ap (λ x. asking x b) owes.asker ∙ is) w
     (single-sendable t b q (legal_of b none) built w is) (owes.ready q is) (owes.may (legal_of b none) w q is) sent plain
@@ -79,10 +79,12 @@ pub came : (a c : Stands) (budget : ℕ) (t : Option Asker) (p : Store) (b : Bat
 came a c budget t p b asks n log after by built owes still =
     let k = is-asked t b owes.asked in
     let q = k.0 in (
-      q, k.1,
+      q,
+      k.1,
       came-by (first_illegal b) a by.mid c budget t p b asks q by.steps by.outcome built owes refl k.1 by.past (sym (ap (λ z. z.lost) by.last) ∙ still) by.ruled
-      (subst (λ x. Sent (first_illegal b) budget b x (begun_block a t b) by.mid by.outcome) k.1 by.sent)
-      (subst (λ x. Plain (first_illegal b) b x (begun_block a t b) by.mid by.outcome) k.1 by.plain))
+          (subst (λ x. Sent (first_illegal b) budget b x (begun_block a t b) by.mid by.outcome) k.1 by.sent)
+          (subst (λ x. Plain (first_illegal b) b x (begun_block a t b) by.mid by.outcome) k.1 by.plain),
+    )
 
 -- what it leads to
 
@@ -118,7 +120,8 @@ turned s a mid t p b block n q steps o world asker sent is past c =
           asks = ap (λ x. asking x b) asker ∙ is;
           plays = subst (λ ts. BlockPlays q 1 ts s.world steps mid.world) (sym none) (subst (λ w. BlockPlays q 1 [] w steps mid.world) (sym world) c.plays);
         },
-        refl);
+        refl,
+      );
       gathers = (c.gathers, refl);
       plain = (c.lead.next, c.lead.answered, sym (ap (λ ts. after_events ts c.lead.next) none));
       stands = subst (StandsFor mid.world) (ap (λ hs. after_made hs c.lead.next) added ∙ steps-made steps c.lead.next) c.lead.stands;

@@ -1,5 +1,10 @@
 pub mod Answering
 pub mod AskedLine
+pub mod Batches
 pub mod Blocks
+pub mod Counts
+pub mod OtherLines
 pub mod Readiness
 pub mod Staying
+pub mod Takings
+pub mod Scripts

@@ -26,12 +26,7 @@ use ds_sim::Sim;
 use std::alloc::{AllocError, Global};
 
 /// Notes how a transaction was closed.
-fn note_close(
-    alloc: Global,
-    sim: &mut Sim,
-    line: u32,
-    log: &mut RunLog,
-) -> Result<(), AllocError>
+fn note_close(alloc: Global, sim: &mut Sim, line: u32, log: &mut RunLog) -> Result<(), AllocError>
     requires { has_texts log.old ≡ true }
     ensures world { IfOk result (λ _. state_of sim.new ≡ record (state_of sim.old) { world = closed (state_of sim.old).world }) }
     ensures logged { IfOk result (λ _. log.new ≡ log.old ++ entries.Closed line (close_status (state_of sim.old).world) ∷ []) }
@@ -41,11 +36,7 @@ fn note_close(
     log.push(alloc, Entry::Closed { line, status })
 }
 
-fn from_start(
-    alloc: Global,
-    numbered: &Numbered,
-    log: &RunLog,
-) -> Result<State, AllocError>
+fn from_start(alloc: Global, numbered: &Numbered, log: &RunLog) -> Result<State, AllocError>
     requires { IsSome (next_stage Start numbered.now.line) }
     ensures stage { IfOk result (λ new. Some (stage_of new) ≡ next_stage Start numbered.now.line) }
     ensures within { IfOk result (λ new. (n : ℕ) → IsWithin new n) }

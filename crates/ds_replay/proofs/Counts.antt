@@ -1,0 +1,70 @@
+-- The steps of a batch leave the count of events.
+use Rattle.std.proofs.Common.{◌≡◌, ℕ, Bool, true, false, List, [], ◌∷◌, ◌++◌, map, Option, Some, None, ◌⊎◌, inl, inr, find, refl, sym, ap, ◌∙◌, subst}
+use Rattle.ds_desc.specs.declared.meta.Looked.TheVariants as Looked
+use Rattle.ds_kind.specs.declared.batch.Batch.{Batch}
+use Rattle.ds_kind.specs.declared.batch.Piece.{Piece}
+use Rattle.ds_kind.specs.declared.illegal.Illegal.{Illegal}
+use Rattle.ds_legal.specs.Rules.{first_illegal}
+use Rattle.ds_cell.specs.Store.{Asker}
+use Rattle.ds_rule.specs.declared.answer.Answer.TheVariants.{Done, Failed, Refused, Lost}
+use Rattle.ds_rule.specs.declared.answer.Outcome.{Outcome}
+use Rattle.ds_rule.specs.declared.journal.Entry.{Entry}
+use Rattle.ds_rule.specs.declared.journal.JournalStep.{JournalStep}
+use Rattle.ds_rule.specs.declared.journal.JournalStep.TheVariants.{Look, Send}
+use Rattle.ds_rule.specs.Asking.{Asking, asking, Made, Gives, Fails}
+use Rattle.ds_rule.specs.Clauses.{Stands}
+use Rattle.ds_rule.specs.Deliver.{Stop, world_made, world_at, deliver_world_to, deliver_world, served, stops, has_id}
+use Rattle.ds_rule.specs.Journal.{Happening, Did as Stepped, Does, Runs, Accepted}
+use Rattle.ds_rule.specs.Path.{Path}
+use Rattle.ds_rule.specs.World.{World, Range}
+use Rattle.ds_send.specs.Sent.{Ruled, Sent, SentBy, IsOpenFor, is_whole}
+use Rattle.ds_replay.specs.Asked.{AskedBy, begun_block}
+use Rattle.ds_replay.proofs.Readiness.{is-asked}
+
+made-count : (w : World) (p : Piece) (m : Made) → (world_made w p m).count ≡ w.count
+made-count w p (Fails f) = refl
+made-count w p (Gives cells ws rs) = refl
+
+at-count : (w : World) (p : Piece) (r : Range) (s : Option Stop) → (world_at w p r s).count ≡ w.count
+at-count w p r (Some a) = refl
+at-count w p r None = made-count w p (served p r)
+
+to-count : (w : World) (n : ℕ) (p : Piece) (o : Option Range) → (deliver_world_to w n p o).count ≡ w.count
+to-count w n p None = refl
+to-count w n p (Some r) = at-count w p r (stops w n p r)
+
+deliver-count : (w : World) (n : ℕ) (p : Piece) → (deliver_world w n p).count ≡ w.count
+deliver-count w n p = to-count w n p (find (has_id p.range) w.ranges)
+
+does-count : (w : World) (s : JournalStep) (v : World) → Does w s v → v.count ≡ w.count
+does-count w (Look k d (Looked.Rows infos)) v h = ap (λ z. z.count) h.1
+does-count w (Look k d Looked.Lost) v h = ap (λ z. z.count) h
+does-count w (Send n p (Done rs)) v h = ap (λ z. z.count) h.1 ∙ deliver-count w n p
+does-count w (Send n p (Failed f)) v h = ap (λ z. z.count) h.1 ∙ deliver-count w n p
+does-count w (Send n p (Refused r)) v h = ap (λ z. z.count) h.1 ∙ deliver-count w n p
+does-count w (Send n p Lost) v (inl h) = ap (λ z. z.count) h
+does-count w (Send n p Lost) v (inr h) = ap (λ z. z.count) h ∙ deliver-count w n p
+
+runs-count : (steps : List JournalStep) (w v : World) → Runs w (map Stepped steps) v → v.count ≡ w.count
+runs-count [] w v h = ap (λ z. z.count) h
+runs-count (s ∷ ss) w v h = runs-count ss h.0 v h.2 ∙ does-count w s h.0 h.1
+
+path-count : (q : Asking) (a b : Stands) (got : List Accepted) (steps : List JournalStep) → a.past ≡ [] → b.past ≡ map Stepped steps → Path q a b got → b.world.count ≡ a.world.count
+path-count q a b got steps start past path =
+    let added = sym (path.grown ∙ ap (λ hs. hs ++ path.added) start) ∙ past in
+    runs-count steps a.world b.world (subst (λ hs. Runs a.world hs b.world) added path.runs)
+
+sent-count : (w : Bool) (budget : ℕ) (q : Asking) (a b : Stands) (steps : List JournalStep) (o : Outcome) → a.past ≡ [] → b.past ≡ map Stepped steps → SentBy w budget q a b o → b.world.count ≡ a.world.count
+sent-count true budget q a b steps o start past sent = path-count q a b sent.did.got steps start past sent.did.path
+sent-count false budget q a b steps o start past sent = path-count q a b sent.got steps start past sent.path
+
+by-count : (i : Option Illegal) (budget : ℕ) (b : Batch) (q : Asking) (x y : Stands) (steps : List JournalStep) (o : Outcome) → x.past ≡ [] → y.past ≡ map Stepped steps → Ruled i o x y → Sent i budget b (Some q) x y o → y.world.count ≡ x.world.count
+by-count (Some i) budget b q x y steps o start past ruled sent = ap (λ z. z.world.count) ruled.1
+by-count None budget b q x y steps o start past ruled sent = sent-count (is_whole b) budget q x y steps o start past sent
+
+-- a batch leaves the count of events
+pub asked-count : (a c : Stands) (budget : ℕ) (t : Option Asker) (b : Batch) (n : ℕ) (log after : List Entry) → IsOpenFor b.at t → AskedBy a c budget t b n log after → c.world.count ≡ a.world.count
+asked-count a c budget t b n log after who by =
+    let k = is-asked t b who in
+    ap (λ z. z.world.count) by.last ∙ by-count (first_illegal b) budget b k.0 (begun_block a t b) by.mid by.steps by.outcome refl by.past by.ruled
+    (subst (λ x. Sent (first_illegal b) budget b x (begun_block a t b) by.mid by.outcome) k.1 by.sent)

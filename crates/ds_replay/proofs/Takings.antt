@@ -1,0 +1,113 @@
+-- What the replay of each line makes.
+use Rattle.std.proofs.Common.{◌≡◌, ℕ, ◌+◌, ◌≤◌, Bool, true, false, ◌&&◌, List, [], ◌∷◌, ◌++◌, Option, Some, None, is_some, IsSome, if◌then◌else◌, refl, sym, ap, ◌∙◌, subst, arith}
+use Rattle.ds_base.specs.Order.{key_lt, bound}
+use Rattle.ds_base.specs.declared.key.Key.{Key}
+use Rattle.ds_base.specs.declared.value.Stamp.{Stamp}
+use Rattle.ds_base.specs.declared.value.Value.{Value}
+use Rattle.ds_kind.specs.declared.batch.Batch.{Batch}
+use Rattle.ds_cell.specs.Store.{Asker, Store}
+use Rattle.ds_rule.specs.declared.cluster.Cluster.{Cluster}
+use Rattle.ds_rule.specs.declared.event.Block.{Block}
+use Rattle.ds_rule.specs.declared.event.Event.TheVariants.{Write}
+use Rattle.ds_rule.specs.declared.journal.Entry.{Entry}
+use Rattle.ds_rule.specs.declared.journal.Entry.TheVariants as entries
+use Rattle.ds_rule.specs.Begin.{first_world, tiles}
+use Rattle.ds_rule.specs.Close.{with_begin, closed, close_status}
+use Rattle.ds_rule.specs.Moves.{moved}
+use Rattle.ds_script.specs.declared.line.Line.{Line}
+use Rattle.ds_script.specs.declared.line.Line.TheVariants as lines
+use Rattle.ds_script.specs.declared.line.Numbered.{Numbered}
+use Rattle.ds_script.specs.Journals.{Played}
+use Rattle.ds_script.specs.Runs.{has_entry, TakesEntry}
+use Rattle.ds_send.specs.Asked.{asker_of}
+use Rattle.ds_send.specs.Sent.{IsOpenFor}
+use Rattle.ds_send.specs.declared.txn.Txn.{Txn}
+use Rattle.ds_sim.specs.declared.sim.Sim.{Sim}
+use Rattle.ds_sim.specs.State.{state_of}
+use Rattle.ds_replay.specs.declared.state.State.{State}
+use Rattle.ds_replay.specs.declared.state.State.TheVariants as State
+use Rattle.ds_replay.specs.Asked.{AskedBy}
+use Rattle.ds_replay.specs.Built.{Stage, Start, Closed, Open, next_stage, is_cluster, is_sent, may_stand_by}
+use Rattle.ds_replay.specs.Stages.{StandsAt}
+use Rattle.ds_replay.specs.Taken.{LineTaken, Taken}
+use Rattle.ds_replay.proofs.Batches.{asked-closed, asked-open}
+use Rattle.ds_replay.proofs.Counts.{asked-count}
+use Rattle.ds_replay.proofs.OtherLines.{no-entry, one-entry, cluster-line, write-closed, write-open, begin-line, close-line}
+
+some-if : (b : Bool) (x : Stage) → IsSome (if b then Some x else None) → b ≡ true
+some-if true x h = refl
+some-if false x h = cc
+
+and-first : (a b : Bool) → (a && b) ≡ true → a ≡ true
+and-first true b h = refl
+and-first false b h = h
+
+built-line : (stage : Stage) (l : Numbered) (x : Line) → l.line ≡ x → IsSome (next_stage stage l.line) → IsSome (next_stage stage x)
+built-line stage l x is built = subst (λ y. IsSome (next_stage stage y)) is built
+
+silent : (old new : State) (l : Numbered) (x : Line) (log : List Entry) → l.line ≡ x → has_entry x ≡ false → ((s : Played) (p : Store) → StandsAt old s p → LineTaken old new x None s p) → Taken old new l log log
+silent old new l x log is none line = no-entry old new l log (ap has_entry is ∙ none) (λ s p at. subst (λ y. LineTaken old new y None s p) (sym is) (line s p at))
+
+spoken : (old new : State) (l : Numbered) (x : Line) (log after : List Entry) (e : Entry) → l.line ≡ x → TakesEntry (has_entry x) l.number (e ∷ []) (Some e) [] → after ≡ log ++ e ∷ [] → ((s : Played) (p : Store) → StandsAt old s p → LineTaken old new x (Some e) s p) → Taken old new l log after
+spoken old new l x log after e is takes logged line =
+    one-entry old new l log after e (subst (λ y. TakesEntry (has_entry y) l.number (e ∷ []) (Some e) []) (sym is) takes) logged
+    (λ s p at. subst (λ y. LineTaken old new y (Some e) s p) (sym is) (line s p at))
+
+pub cluster-taken : (sim : Sim) (c : Cluster) (l : Numbered) (log : List Entry) → l.line ≡ lines.Cluster c → IsSome (next_stage Start l.line) → state_of sim ≡ record { world = first_world c.ranges; past = []; floor = 0; refused = 0; lost = 0; ahead = [] } → Taken State.Start (State.Closed sim 0) l log log
+cluster-taken sim c l log is built made =
+    silent State.Start (State.Closed sim 0) l (lines.Cluster c) log is refl
+    (λ s p at. cluster-line sim c s p (and-first (tiles c.ranges) _ (some-if (is_cluster c.ranges) Closed (built-line Start l (lines.Cluster c) is built))) made at)
+
+pub write-closed-taken : (sim new : Sim) (begun : ℕ) (k : Key) (t : Stamp) (v : Option Value) (l : Numbered) (log : List Entry) → l.line ≡ lines.Write k t v → IsSome (next_stage Closed l.line) → state_of new ≡ record (state_of sim) { world = moved (state_of sim).world (Write k t v) } → Taken (State.Closed sim begun) (State.Closed new begun) l log log
+write-closed-taken sim new begun k t v l log is built made =
+    silent (State.Closed sim begun) (State.Closed new begun) l (lines.Write k t v) log is refl
+    (λ s p at. write-closed sim new begun s p k t v (some-if _ Closed (built-line Closed l (lines.Write k t v) is built)) made at)
+
+pub write-open-taken : (sim new : Sim) (txn : Txn) (begun : ℕ) (k : Key) (t : Stamp) (v : Option Value) (l : Numbered) (log : List Entry) → l.line ≡ lines.Write k t v → IsSome (next_stage (Open txn.stamp.0) l.line) → state_of new ≡ record (state_of sim) { world = moved (state_of sim).world (Write k t v) } → Taken (State.Open sim txn begun) (State.Open new txn begun) l log log
+write-open-taken sim new txn begun k t v l log is built made =
+    silent (State.Open sim txn begun) (State.Open new txn begun) l (lines.Write k t v) log is refl
+    (λ s p at. write-open sim new txn begun s p k t v (some-if _ (Open txn.stamp.0) (built-line (Open txn.stamp.0) l (lines.Write k t v) is built)) made at)
+
+pub begin-taken : (sim new : Sim) (begun : ℕ) (txn : Txn) (t : Stamp) (k : Key) (l : Numbered) (log : List Entry) → l.line ≡ lines.Begin t k → txn ≡ record { number = record { 0 = begun + 1 }; stamp = t; epoch = 0; last = record { 0 = 0 } } → state_of new ≡ record (state_of sim) { world = with_begin (record { number = begun + 1; stamp = t.0; epoch = 0; last = 0 }) (state_of sim).world } → Taken (State.Closed sim begun) (State.Open new txn (begun + 1)) l log log
+begin-taken sim new begun txn t k l log is who made =
+    silent (State.Closed sim begun) (State.Open new txn (begun + 1)) l (lines.Begin t k) log is refl
+    (λ s p at. begin-line sim new begun txn s p t k who made at)
+
+pub close-taken : (sim new : Sim) (txn : Txn) (begun : ℕ) (l : Numbered) (log after : List Entry) → l.line ≡ lines.Close → state_of new ≡ record (state_of sim) { world = closed (state_of sim).world } → after ≡ log ++ entries.Closed l.number (close_status (state_of sim).world) ∷ [] → Taken (State.Open sim txn begun) (State.Closed new begun) l log after
+close-taken sim new txn begun l log after is made logged =
+    spoken (State.Open sim txn begun) (State.Closed new begun) l lines.Close log after (entries.Closed l.number (close_status (state_of sim).world)) is (refl, refl) logged
+    (λ s p at. close-line sim new txn begun s p l.number made at)
+
+pub asked-closed-taken : (sim new : Sim) (begun budget : ℕ) (b : Batch) (block : Block) (l : Numbered) (log after : List Entry) → l.line ≡ lines.Batch b block → IsSome (next_stage Closed l.line) → AskedBy (state_of sim) (state_of new) budget None b l.number log after → Taken (State.Closed sim begun) (State.Closed new begun) l log after
+asked-closed-taken sim new begun budget b block l log after is built by =
+    spoken (State.Closed sim begun) (State.Closed new begun) l (lines.Batch b block) log after (entries.Batch l.number by.steps by.outcome) is (refl, refl) by.logged
+    (λ s p at. asked-closed sim new begun budget b block l.number log after s p by (some-if _ Closed (built-line Closed l (lines.Batch b block) is built)) at)
+
+pub open-for : (at : Option Stamp) (txn : Txn) → txn.last.0 ≡ 0 → IsOpenFor at (Some (asker_of txn))
+open-for None txn h = omega (arith, h)
+open-for (Some s) txn h = tt
+
+alone-for : (at : Option Stamp) → is_some at ≡ true → IsOpenFor at None
+alone-for None h = cc
+alone-for (Some s) h = tt
+
+pub asked-open-taken : (sim new : Sim) (txn : Txn) (begun budget : ℕ) (b : Batch) (block : Block) (l : Numbered) (log after : List Entry) → l.line ≡ lines.Batch b block → IsSome (next_stage (Open txn.stamp.0) l.line) → txn.last.0 ≡ 0 → AskedBy (state_of sim) (state_of new) budget (Some (asker_of txn)) b l.number log after → Taken (State.Open sim txn begun) (State.Open new txn begun) l log after
+asked-open-taken sim new txn begun budget b block l log after is built fresh by =
+    spoken (State.Open sim txn begun) (State.Open new txn begun) l (lines.Batch b block) log after (entries.Batch l.number by.steps by.outcome) is (refl, refl) by.logged
+    (λ s p at. asked-open sim new txn begun budget b block l.number log after s p by (some-if _ (Open txn.stamp.0) (built-line (Open txn.stamp.0) l (lines.Batch b block) is built)) (open-for b.at txn fresh) at)
+
+-- events are counted as before
+
+pub count-open : (sim new : Sim) (txn : Txn) (budget : ℕ) (b : Batch) (n : ℕ) (log after : List Entry) → txn.last.0 ≡ 0 → AskedBy (state_of sim) (state_of new) budget (Some (asker_of txn)) b n log after → new.count ≡ sim.count
+count-open sim new txn budget b n log after fresh by = asked-count (state_of sim) (state_of new) budget (Some (asker_of txn)) b n log after (open-for b.at txn fresh) by
+
+pub count-closed : (sim new : Sim) (budget : ℕ) (b : Batch) (block : Block) (l : Numbered) (log after : List Entry) → l.line ≡ lines.Batch b block → IsSome (next_stage Closed l.line) → AskedBy (state_of sim) (state_of new) budget None b l.number log after → new.count ≡ sim.count
+count-closed sim new budget b block l log after is built by =
+    asked-count (state_of sim) (state_of new) budget None b l.number log after
+    (alone-for b.at (and-first (is_some b.at) _ (some-if (is_some b.at && is_sent b block) Closed (built-line Closed l (lines.Batch b block) is built)))) by
+
+pub one-more : (sim new : Sim) (m : ℕ) → new.count ≡ sim.count → sim.count ≤ m → new.count ≤ m + 1
+one-more sim new m same h = omega (arith, same, h)
+
+pub more : (n m : ℕ) → n ≤ m → n ≤ m + 1
+more n m h = omega (arith, h)
