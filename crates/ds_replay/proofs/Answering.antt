@@ -9,6 +9,7 @@ use Rattle.ds_kind.specs.declared.batch.Batch.{Batch}
 use Rattle.ds_kind.specs.declared.illegal.Illegal.{Illegal}
 use Rattle.ds_kind.specs.declared.reply.Failure.TheVariants as Failure
 use Rattle.ds_legal.specs.Legal.{IsLegal}
+use Rattle.ds_legal.specs.Rules.{first_illegal}
 use Rattle.ds_cell.specs.Store.{Asker, Store, StoreTxn, Fate, Pending}
 use Rattle.ds_rule.specs.declared.answer.Outcome.{Outcome}
 use Rattle.ds_rule.specs.declared.answer.Outcome.TheVariants as Outcome
@@ -30,6 +31,7 @@ use Rattle.ds_rule.proofs.WholeGathered.{whole-gathered}
 use Rattle.ds_script.specs.Journals.{Asks, BatchGathers, InOnePiece, accepted_in, sees_one_state}
 use Rattle.ds_send.specs.Sent.{DidOnce, IsWholeSendable, PlainIf, WasQuiet, is_whole}
 use Rattle.ds_replay.specs.Asked.{begun_block}
+use Rattle.ds_replay.specs.Causes.{BatchCause, SentCause}
 use Rattle.ds_replay.proofs.Blocks.{never-rose, quiet-steps, steps-play, steps-made, steps-still, steps-accepted, one-served}
 
 -- its answer is no doubt
@@ -38,11 +40,12 @@ IsSure (Outcome.Ambiguous lost) = ⊥
 IsSure o = Unit {0}
 
 -- what a batch's block was, for a store
-pub record Came (a mid : Stands) (asks : Asks) (p : Store) (b : Batch) (q : Asking) (steps : List JournalStep) (o : Outcome) : Type 0 where
+pub record Came (budget : ℕ) (a mid : Stands) (asks : Asks) (p : Store) (b : Batch) (q : Asking) (steps : List JournalStep) (o : Outcome) : Type 0 where
   pub lead : LeadsTo a mid p b o
   pub plays : BlockPlays q 1 [] a.world steps mid.world
   pub gathers : BatchGathers asks b steps o
   pub sure : b.at ≡ None → IsSure o
+  pub cause : BatchCause budget (first_illegal b) asks p b steps o
 
 gather-each : (budget : ℕ) (asks : Asks) (b : Batch) (q : Asking) (hs : List Happening) (got : List Accepted) (steps : List JournalStep) (o : Outcome) → asking asks.asker b ≡ Some q → sees_one_state b ≡ false → got ≡ accepted_in steps → CauseOf budget q hs got o → BatchGathers asks b steps o
 gather-each budget asks b q hs got steps (Outcome.Ok rs) is apart same c = (q, is, subst (λ xs. Gathered xs q.items rs) same c, subst (λ t. InOnePiece t steps) (sym apart) tt)
@@ -116,8 +119,8 @@ sure-each budget b q x y p (Outcome.RetryExhausted r l) did reading still ready 
 sure-each budget b q x y p Outcome.OutOfMemory did reading still ready pend = tt
 
 -- sent request by request
-pub came-each : (budget : ℕ) (asks : Asks) (b : Batch) (q : Asking) (x y : Stands) (p : Store) (steps : List JournalStep) (o : Outcome) → x.past ≡ [] → x.lost ≡ 0 → y.lost ≡ 0 → y.past ≡ map Stepped steps → asking asks.asker b ≡ Some q → is_whole b ≡ false → IsReading b q → Ready x p b q → Pends q.head.txn p.txn → Did budget q x y o → IsPlainFor x y b q o → Came x y asks p b q steps o
-came-each budget asks b q x y p steps o start none still past is apart reading ready pend did plain =
+pub came-each : (budget : ℕ) (asks : Asks) (b : Batch) (q : Asking) (x y : Stands) (p : Store) (steps : List JournalStep) (o : Outcome) → x.past ≡ [] → x.lost ≡ 0 → y.lost ≡ 0 → y.past ≡ map Stepped steps → first_illegal b ≡ None → asking asks.asker b ≡ Some q → is_whole b ≡ false → IsReading b q → Ready x p b q → Pends q.head.txn p.txn → Did budget q x y o → IsPlainFor x y b q o → Came budget x y asks p b q steps o
+came-each budget asks b q x y p steps o start none still past kept is apart reading ready pend did plain =
     let added = sym (did.path.grown ∙ ap (λ hs. hs ++ did.path.added) start) ∙ past in
     let bl : Block q x y did.got steps = record { path = did.path; added = added } in
     record {
@@ -125,6 +128,12 @@ came-each budget asks b q x y p steps o start none still past is apart reading r
       plays = block-plays q x y did.got steps none still bl;
       gathers = gather-each budget asks b q did.path.added did.got steps o is apart (block-got q x y did.got steps bl) did.cause;
       sure = λ at. sure-each budget b q x y p o did reading (subst (Each NoMove) (sym added) (steps-still steps)) ready pend;
+      cause = subst (λ i. BatchCause budget i asks p b steps o) (sym kept) (
+        q,
+        is,
+        subst (λ w. SentCause w budget p q steps o) (sym apart)
+            (subst (λ hs. CauseOf budget q hs (accepted_in steps) o) added (subst (λ xs. CauseOf budget q did.path.added xs o) (block-got q x y did.got steps bl) did.cause)),
+      );
     }
 
 no-stamp : (at : Option Stamp) (t : Bool) → (is_some at && t) ≡ true → at ≡ None → ⊥
@@ -132,17 +141,20 @@ no-stamp None t h e = cc
 no-stamp (Some s) t h e = cc
 
 -- sent in one piece
-pub came-whole : (budget : ℕ) (asks : Asks) (b : Batch) (q : Asking) (x y : Stands) (p : Store) (steps : List JournalStep) (o : Outcome) → x.past ≡ [] → x.lost ≡ 0 → y.lost ≡ 0 → y.past ≡ map Stepped steps → asking asks.asker b ≡ Some q → is_whole b ≡ true → IsWholeSendable q → Ready x p b q → MayAct p q → DidOnce budget q x y o → PlainIf true x y b q o → Came x y asks p b q steps o
-came-whole budget asks b q x y p steps o start none still past is one send ready may once plain =
+pub came-whole : (budget : ℕ) (asks : Asks) (b : Batch) (q : Asking) (x y : Stands) (p : Store) (steps : List JournalStep) (o : Outcome) → x.past ≡ [] → x.lost ≡ 0 → y.lost ≡ 0 → y.past ≡ map Stepped steps → first_illegal b ≡ None → asking asks.asker b ≡ Some q → is_whole b ≡ true → IsWholeSendable q → Ready x p b q → MayAct p q → DidOnce budget q x y o → PlainIf true x y b q o → Came budget x y asks p b q steps o
+came-whole budget asks b q x y p steps o start none still past kept is one send ready may once plain =
     let did = once.did in
     let added = sym (did.path.grown ∙ ap (λ hs. hs ++ did.path.added) start) ∙ past in
     let bl : Block q x y did.got steps = record { path = did.path; added = added } in
     let quiet = block-quiet q x y did.got steps none still bl in
+    let law = plain p ready may (λ hs grown. subst (Each IsQuiet) (sym (sym (grown ∙ ap (λ zs. zs ++ hs) start) ∙ past)) quiet) in
     record {
-      lead = (plain p ready may (λ hs grown. subst (Each IsQuiet) (sym (sym (grown ∙ ap (λ zs. zs ++ hs) start) ∙ past)) quiet)).0;
+      lead = law.0;
       plays = block-plays q x y did.got steps none still bl;
       gathers = gather-whole budget asks b q x y did.got did.path steps o is one send (block-got q x y did.got steps bl) added did.cause;
       sure = λ at. absurd (no-stamp b.at b.consistent one at);
+      cause = subst (λ i. BatchCause budget i asks p b steps o) (sym kept)
+          (q, is, subst (λ w. SentCause w budget p q steps o) (sym one) (subst (λ hs. WholeCauseOf budget q hs o) added did.cause, law.1));
     }
 
 nothing-past : (steps : List JournalStep) → [] ≡ map Stepped steps → steps ≡ []
@@ -150,14 +162,15 @@ nothing-past [] h = refl
 nothing-past (s ∷ ss) h = cc
 
 -- a batch that breaks a rule
-pub came-illegal : (asks : Asks) (b : Batch) (q : Asking) (x y : Stands) (p : Store) (steps : List JournalStep) (i : Illegal) (o : Outcome) → x.past ≡ [] → y.past ≡ map Stepped steps → y ≡ x → o ≡ Outcome.Illegal i → LeadsTo x y p b o → Came x y asks p b q steps o
-came-illegal asks b q x y p steps i o start past same is lead =
+pub came-illegal : (budget : ℕ) (asks : Asks) (b : Batch) (q : Asking) (x y : Stands) (p : Store) (steps : List JournalStep) (i : Illegal) (o : Outcome) → first_illegal b ≡ Some i → x.past ≡ [] → y.past ≡ map Stepped steps → y ≡ x → o ≡ Outcome.Illegal i → LeadsTo x y p b o → Came budget x y asks p b q steps o
+came-illegal budget asks b q x y p steps i o broken start past same is lead =
     let none = nothing-past steps (sym start ∙ sym (ap (λ z. z.past) same) ∙ past) in
     record {
       lead = lead;
       plays = subst (λ ss. BlockPlays q 1 [] x.world ss y.world) (sym none) (ap (λ z. z.world) same);
       gathers = subst (λ o. BatchGathers asks b steps o) (sym is) tt;
       sure = λ at. subst IsSure (sym is) tt;
+      cause = subst (λ j. BatchCause budget j asks p b steps o) (sym broken) (is, none);
     }
 
 -- a pending transaction is pending for whoever asks

@@ -60,22 +60,22 @@ pub record Owes (a : Stands) (t : Option Asker) (p : Store) (b : Batch) (asks : 
   pub may : IsLegal b → is_whole b ≡ true → (q : Asking) → asking t b ≡ Some q → MayAct p q
   pub pends : (q : Asking) → asking t b ≡ Some q → Pends q.head.txn p.txn
 
-came-legal : (w : Bool) (a mid c : Stands) (budget : ℕ) (t : Option Asker) (p : Store) (b : Batch) (asks : Asks) (q : Asking) (steps : List JournalStep) (o : Outcome) → Sends.is_built b ≡ true → Owes a t p b asks → first_illegal b ≡ None → is_whole b ≡ w → asking t b ≡ Some q → mid.past ≡ map Stepped steps → mid.lost ≡ 0 → SentBy w budget q (begun_block a t b) mid o → PlainIf w (begun_block a t b) mid b q o → Came (begun_block a t b) mid asks p b q steps o
+came-legal : (w : Bool) (a mid c : Stands) (budget : ℕ) (t : Option Asker) (p : Store) (b : Batch) (asks : Asks) (q : Asking) (steps : List JournalStep) (o : Outcome) → Sends.is_built b ≡ true → Owes a t p b asks → first_illegal b ≡ None → is_whole b ≡ w → asking t b ≡ Some q → mid.past ≡ map Stepped steps → mid.lost ≡ 0 → SentBy w budget q (begun_block a t b) mid o → PlainIf w (begun_block a t b) mid b q o → Came budget (begun_block a t b) mid asks p b q steps o
 came-legal false a mid c budget t p b asks q steps o built owes none w is past still sent plain =
-    came-each budget asks b q (begun_block a t b) mid p steps o refl owes.none_lost still past (ap (λ x. asking x b) owes.asker ∙ is) w
+    came-each budget asks b q (begun_block a t b) mid p steps o refl owes.none_lost still past none (ap (λ x. asking x b) owes.asker ∙ is) w
     (reading t b q (legal_of b none) built w is) (owes.ready q is) (owes.pends q is) sent plain
 came-legal true a mid c budget t p b asks q steps o built owes none w is past still sent plain =
-    came-whole budget asks b q (begun_block a t b) mid p steps o refl owes.none_lost still past (ap (λ x. asking x b) owes.asker ∙ is) w
+    came-whole budget asks b q (begun_block a t b) mid p steps o refl owes.none_lost still past none (ap (λ x. asking x b) owes.asker ∙ is) w
     (single-sendable t b q (legal_of b none) built w is) (owes.ready q is) (owes.may (legal_of b none) w q is) sent plain
 
-came-by : (i : Option Illegal) (a mid c : Stands) (budget : ℕ) (t : Option Asker) (p : Store) (b : Batch) (asks : Asks) (q : Asking) (steps : List JournalStep) (o : Outcome) → Sends.is_built b ≡ true → Owes a t p b asks → first_illegal b ≡ i → asking t b ≡ Some q → mid.past ≡ map Stepped steps → mid.lost ≡ 0 → Ruled i o (begun_block a t b) mid → Sent i budget b (Some q) (begun_block a t b) mid o → Plain i b (Some q) (begun_block a t b) mid o → Came (begun_block a t b) mid asks p b q steps o
+came-by : (i : Option Illegal) (a mid c : Stands) (budget : ℕ) (t : Option Asker) (p : Store) (b : Batch) (asks : Asks) (q : Asking) (steps : List JournalStep) (o : Outcome) → Sends.is_built b ≡ true → Owes a t p b asks → first_illegal b ≡ i → asking t b ≡ Some q → mid.past ≡ map Stepped steps → mid.lost ≡ 0 → Ruled i o (begun_block a t b) mid → Sent i budget b (Some q) (begun_block a t b) mid o → Plain i b (Some q) (begun_block a t b) mid o → Came budget (begun_block a t b) mid asks p b q steps o
 came-by (Some i) a mid c budget t p b asks q steps o built owes none is past still ruled sent plain =
-    came-illegal asks b q (begun_block a t b) mid p steps i o refl past ruled.1 ruled.0 (plain p owes.stands)
+    came-illegal budget asks b q (begun_block a t b) mid p steps i o none refl past ruled.1 ruled.0 (plain p owes.stands)
 came-by None a mid c budget t p b asks q steps o built owes none is past still ruled sent plain =
     came-legal (is_whole b) a mid c budget t p b asks q steps o built owes none refl is past still sent plain
 
 -- a batch of a script, from where the replay stood
-pub came : (a c : Stands) (budget : ℕ) (t : Option Asker) (p : Store) (b : Batch) (asks : Asks) (n : ℕ) (log after : List Entry) (by : AskedBy a c budget t b n log after) → Sends.is_built b ≡ true → Owes a t p b asks → c.lost ≡ 0 → (q : Asking) × (asking t b ≡ Some q) × Came (begun_block a t b) by.mid asks p b q by.steps by.outcome
+pub came : (a c : Stands) (budget : ℕ) (t : Option Asker) (p : Store) (b : Batch) (asks : Asks) (n : ℕ) (log after : List Entry) (by : AskedBy a c budget t b n log after) → Sends.is_built b ≡ true → Owes a t p b asks → c.lost ≡ 0 → (q : Asking) × (asking t b ≡ Some q) × Came budget (begun_block a t b) by.mid asks p b q by.steps by.outcome
 came a c budget t p b asks n log after by built owes still =
     let k = is-asked t b owes.asked in
     let q = k.0 in (
@@ -107,8 +107,8 @@ pub record Turned (s : Played) (p : Store) (b : Batch) (block : Block) (n : ℕ)
   pub plain : PlainTurn p (lines.Batch b block) (Some (entries.Batch n steps o)) next
   pub stands : StandsFor w next
 
-pub turned : (s : Played) (a mid : Stands) (t : Option Asker) (p : Store) (b : Batch) (block : Block) (n : ℕ) (q : Asking) (steps : List JournalStep) (o : Outcome) → s.world ≡ a.world → s.asks.asker ≡ t → is_sent b block ≡ true → asking t b ≡ Some q → mid.past ≡ map Stepped steps → Came (begun_block a t b) mid s.asks p b q steps o → Turned s p b block n steps o mid.world
-turned s a mid t p b block n q steps o world asker sent is past c =
+pub turned : (budget : ℕ) (s : Played) (a mid : Stands) (t : Option Asker) (p : Store) (b : Batch) (block : Block) (n : ℕ) (q : Asking) (steps : List JournalStep) (o : Outcome) → s.world ≡ a.world → s.asks.asker ≡ t → is_sent b block ≡ true → asking t b ≡ Some q → mid.past ≡ map Stepped steps → Came budget (begun_block a t b) mid s.asks p b q steps o → Turned s p b block n steps o mid.world
+turned budget s a mid t p b block n q steps o world asker sent is past c =
     let none = quiet-block b block sent in
     let added : c.lead.added ≡ map Stepped steps = sym c.lead.grown ∙ past in
     record {

@@ -74,19 +74,20 @@ owes-closed sim begun s p b at is here =
       pends = λ q asks. subst (Pends q.head.txn) (sym here.2) (alone-asker b at q is asks);
     }
 
-pub asked-closed : (sim new : Sim) (begun budget : ℕ) (b : Batch) (block : Block) (n : ℕ) (log after : List Entry) (s : Played) (p : Store) (by : AskedBy (state_of sim) (state_of new) budget None b n log after) → (is_some b.at && is_sent b block) ≡ true → StandsAt (State.Closed sim begun) s p → LineTaken (State.Closed sim begun) (State.Closed new begun) (lines.Batch b block) (Some (entries.Batch n by.steps by.outcome)) s p
+pub asked-closed : (sim new : Sim) (begun budget : ℕ) (b : Batch) (block : Block) (n : ℕ) (log after : List Entry) (s : Played) (p : Store) (by : AskedBy (state_of sim) (state_of new) budget None b n log after) → (is_some b.at && is_sent b block) ≡ true → StandsAt (State.Closed sim begun) s p → LineTaken budget (State.Closed sim begun) (State.Closed new begun) (lines.Batch b block) (Some (entries.Batch n by.steps by.outcome)) s p
 asked-closed sim new begun budget b block n log after s p by fits here =
     let at = some-of b.at (and-first (is_some b.at) _ fits) in
     let sent = and-second (is_some b.at) _ fits in
     let owes = owes-closed sim begun s p b at.0 at.1 here in
     let c = came (state_of sim) (state_of new) budget None p b s.asks n log after by (and-first (Sends.is_built b) _ sent) owes refl in
-    let tn = turned s (state_of sim) by.mid None p b block n c.0 by.steps by.outcome here.0.world here.1 sent c.1 by.past c.2 in
+    let tn = turned budget s (state_of sim) by.mid None p b block n c.0 by.steps by.outcome here.0.world here.1 sent c.1 by.past c.2 in
     record {
       played = record { world = by.mid.world; asks = answered_asks b by.outcome s.asks };
       next = tn.next;
       journal = tn.journal;
       gathers = tn.gathers;
       plain = tn.plain;
+      cause = c.2.cause;
       stands = (
         record {
           world = sym (ap (λ z. z.world) by.last);
@@ -148,20 +149,21 @@ open-after : (at : Option Stamp) (txn : Txn) (b : Batch) (o : Outcome) (p next :
 open-after None txn b o p next is built sure h ans = still-open txn b o p next (sure is) is (unnumbered b is built) h ans
 open-after (Some s) txn b o p next is built sure h ans = subst (HasOpen txn) (sym (same-txn b o s p next is ans)) h
 
-pub asked-open : (sim new : Sim) (txn : Txn) (begun budget : ℕ) (b : Batch) (block : Block) (n : ℕ) (log after : List Entry) (s : Played) (p : Store) (by : AskedBy (state_of sim) (state_of new) budget (Some (asker_of txn)) b n log after) → (may_stand_by txn.stamp.0 b.at b.requests && is_sent b block) ≡ true → IsOpenFor b.at (Some (asker_of txn)) → StandsAt (State.Open sim txn begun) s p → LineTaken (State.Open sim txn begun) (State.Open new txn begun) (lines.Batch b block) (Some (entries.Batch n by.steps by.outcome)) s p
+pub asked-open : (sim new : Sim) (txn : Txn) (begun budget : ℕ) (b : Batch) (block : Block) (n : ℕ) (log after : List Entry) (s : Played) (p : Store) (by : AskedBy (state_of sim) (state_of new) budget (Some (asker_of txn)) b n log after) → (may_stand_by txn.stamp.0 b.at b.requests && is_sent b block) ≡ true → IsOpenFor b.at (Some (asker_of txn)) → StandsAt (State.Open sim txn begun) s p → LineTaken budget (State.Open sim txn begun) (State.Open new txn begun) (lines.Batch b block) (Some (entries.Batch n by.steps by.outcome)) s p
 asked-open sim new txn begun budget b block n log after s p by fits asked here =
     let may = and-first (may_stand_by txn.stamp.0 b.at b.requests) _ fits in
     let sent = and-second (may_stand_by txn.stamp.0 b.at b.requests) _ fits in
     let built = and-first (Sends.is_built b) _ sent in
     let owes = owes-open p.txn sim txn begun s p b refl may asked here.0 here.1 here.2 in
     let c = came (state_of sim) (state_of new) budget (Some (asker_of txn)) p b s.asks n log after by built owes refl in
-    let tn = turned s (state_of sim) by.mid (Some (asker_of txn)) p b block n c.0 by.steps by.outcome here.0.world here.1 sent c.1 by.past c.2 in
+    let tn = turned budget s (state_of sim) by.mid (Some (asker_of txn)) p b block n c.0 by.steps by.outcome here.0.world here.1 sent c.1 by.past c.2 in
     record {
       played = record { world = by.mid.world; asks = answered_asks b by.outcome s.asks };
       next = tn.next;
       journal = tn.journal;
       gathers = tn.gathers;
       plain = tn.plain;
+      cause = c.2.cause;
       stands = (
         record {
           world = sym (ap (λ z. z.world) by.last);

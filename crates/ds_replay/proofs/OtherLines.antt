@@ -42,7 +42,7 @@ append-nil [] = refl
 append-nil (e ∷ es) = ap (λ xs. e ∷ xs) (append-nil es)
 
 -- a line without an entry leaves the log
-pub no-entry : (old new : State) (l : Numbered) (log : List Entry) → has_entry l.line ≡ false → ((s : Played) (p : Store) → StandsAt old s p → LineTaken old new l.line None s p) → Taken old new l log log
+pub no-entry : {budget : ℕ} (old new : State) (l : Numbered) (log : List Entry) → has_entry l.line ≡ false → ((s : Played) (p : Store) → StandsAt old s p → LineTaken budget old new l.line None s p) → Taken budget old new l log log
 no-entry old new l log none line = record {
   entry = None;
   takes = subst (λ t. TakesEntry t l.number [] None []) (sym none) refl;
@@ -50,17 +50,18 @@ no-entry old new l log none line = record {
   line = line;
 }
 
-pub one-entry : (old new : State) (l : Numbered) (log after : List Entry) (e : Entry) → TakesEntry (has_entry l.line) l.number (e ∷ []) (Some e) [] → after ≡ log ++ e ∷ [] → ((s : Played) (p : Store) → StandsAt old s p → LineTaken old new l.line (Some e) s p) → Taken old new l log after
+pub one-entry : {budget : ℕ} (old new : State) (l : Numbered) (log after : List Entry) (e : Entry) → TakesEntry (has_entry l.line) l.number (e ∷ []) (Some e) [] → after ≡ log ++ e ∷ [] → ((s : Played) (p : Store) → StandsAt old s p → LineTaken budget old new l.line (Some e) s p) → Taken budget old new l log after
 one-entry old new l log after e takes logged line = record { entry = Some e; takes = takes; logged = logged; line = line }
 
 -- the cluster
 
-pub cluster-line : (sim : Sim) (c : Cluster) (s : Played) (p : Store) → tiles c.ranges ≡ true → state_of sim ≡ record { world = first_world c.ranges; past = []; floor = 0; refused = 0; lost = 0; ahead = [] } → StandsAt State.Start s p → LineTaken State.Start (State.Closed sim 0) (lines.Cluster c) None s p
+pub cluster-line : {budget : ℕ} (sim : Sim) (c : Cluster) (s : Played) (p : Store) → tiles c.ranges ≡ true → state_of sim ≡ record { world = first_world c.ranges; past = []; floor = 0; refused = 0; lost = 0; ahead = [] } → StandsAt State.Start s p → LineTaken budget State.Start (State.Closed sim 0) (lines.Cluster c) None s p
 cluster-line sim c s p tile is at = record {
   played = record { world = first_world c.ranges; asks = s.asks };
   next = p;
   journal = (refl, refl);
   gathers = (tt, refl);
+  cause = tt;
   plain = refl;
   stands = (
     record {
@@ -95,12 +96,13 @@ write-in sim new begun s p k t v floor fits low is at = record {
   stored = at.stored;
 }
 
-pub write-closed : (sim new : Sim) (begun : ℕ) (s : Played) (p : Store) (k : Key) (t : Stamp) (v : Option Value) → (key_lt k bound && nat_lt 0 t.0) ≡ true → state_of new ≡ record (state_of sim) { world = moved (state_of sim).world (Write k t v) } → StandsAt (State.Closed sim begun) s p → LineTaken (State.Closed sim begun) (State.Closed new begun) (lines.Write k t v) None s p
+pub write-closed : {budget : ℕ} (sim new : Sim) (begun : ℕ) (s : Played) (p : Store) (k : Key) (t : Stamp) (v : Option Value) → (key_lt k bound && nat_lt 0 t.0) ≡ true → state_of new ≡ record (state_of sim) { world = moved (state_of sim).world (Write k t v) } → StandsAt (State.Closed sim begun) s p → LineTaken budget (State.Closed sim begun) (State.Closed new begun) (lines.Write k t v) None s p
 write-closed sim new begun s p k t v fits is at = record {
   played = record s { world = moved s.world (Write k t v) };
   next = after_event (Write k t v) p;
   journal = (refl, refl);
   gathers = (tt, refl);
+  cause = tt;
   plain = refl;
   stands = (write-in sim new begun s p k t v 0 fits (subst (λ o. open_stamp o ≤ 0) (sym at.2) (omega arith)) is at.0, at.1, at.2);
 }
@@ -109,19 +111,20 @@ open-low : (txn : Txn) (o : Option StoreTxn) → HasOpen txn o → open_stamp o 
 open-low txn None h = absurd h
 open-low txn (Some t) h = let same : t.asker.stamp ≡ txn.stamp.0 = ap (λ a. a.stamp) h.asker in omega (arith, same)
 
-pub write-open : (sim new : Sim) (txn : Txn) (begun : ℕ) (s : Played) (p : Store) (k : Key) (t : Stamp) (v : Option Value) → (key_lt k bound && nat_lt txn.stamp.0 t.0) ≡ true → state_of new ≡ record (state_of sim) { world = moved (state_of sim).world (Write k t v) } → StandsAt (State.Open sim txn begun) s p → LineTaken (State.Open sim txn begun) (State.Open new txn begun) (lines.Write k t v) None s p
+pub write-open : {budget : ℕ} (sim new : Sim) (txn : Txn) (begun : ℕ) (s : Played) (p : Store) (k : Key) (t : Stamp) (v : Option Value) → (key_lt k bound && nat_lt txn.stamp.0 t.0) ≡ true → state_of new ≡ record (state_of sim) { world = moved (state_of sim).world (Write k t v) } → StandsAt (State.Open sim txn begun) s p → LineTaken budget (State.Open sim txn begun) (State.Open new txn begun) (lines.Write k t v) None s p
 write-open sim new txn begun s p k t v fits is at = record {
   played = record s { world = moved s.world (Write k t v) };
   next = after_event (Write k t v) p;
   journal = (refl, refl);
   gathers = (tt, refl);
+  cause = tt;
   plain = refl;
   stands = (write-in sim new begun s p k t v txn.stamp.0 fits (open-low txn p.txn at.2) is at.0, at.1, at.2);
 }
 
 -- a begin
 
-pub begin-line : (sim new : Sim) (begun : ℕ) (txn : Txn) (s : Played) (p : Store) (t : Stamp) (k : Key) → txn ≡ record { number = record { 0 = begun + 1 }; stamp = t; epoch = 0; last = record { 0 = 0 } } → state_of new ≡ record (state_of sim) { world = with_begin (record { number = begun + 1; stamp = t.0; epoch = 0; last = 0 }) (state_of sim).world } → StandsAt (State.Closed sim begun) s p → LineTaken (State.Closed sim begun) (State.Open new txn (begun + 1)) (lines.Begin t k) None s p
+pub begin-line : {budget : ℕ} (sim new : Sim) (begun : ℕ) (txn : Txn) (s : Played) (p : Store) (t : Stamp) (k : Key) → txn ≡ record { number = record { 0 = begun + 1 }; stamp = t; epoch = 0; last = record { 0 = 0 } } → state_of new ≡ record (state_of sim) { world = with_begin (record { number = begun + 1; stamp = t.0; epoch = 0; last = 0 }) (state_of sim).world } → StandsAt (State.Closed sim begun) s p → LineTaken budget (State.Closed sim begun) (State.Open new txn (begun + 1)) (lines.Begin t k) None s p
 begin-line sim new begun txn s p t k who is at =
     let asked : next_asker t s.asks ≡ record { number = begun + 1; stamp = t.0; epoch = 0; last = 0 } = ap (λ n. record { number = n + 1; stamp = t.0; epoch = 0; last = 0 }) at.0.played in
     let stored : record { number = p.begun + 1; stamp = t.0; epoch = 0; last = 0 } ≡ next_asker t s.asks = ap (λ n. record { number = n + 1; stamp = t.0; epoch = 0; last = 0 }) (at.0.stored ∙ sym at.0.played) in
@@ -131,6 +134,7 @@ begin-line sim new begun txn s p t k who is at =
       next = with_txn t p;
       journal = (refl, refl);
       gathers = (tt, refl);
+      cause = tt;
       plain = refl;
       stands = (
         record {
@@ -146,7 +150,7 @@ begin-line sim new begun txn s p t k who is at =
 
 -- a close
 
-close-by : (o : Option StoreTxn) (sim new : Sim) (txn : Txn) (begun : ℕ) (s : Played) (p : Store) (n : ℕ) → p.txn ≡ o → state_of new ≡ record (state_of sim) { world = closed (state_of sim).world } → IsIn sim begun s p → HasOpen txn o → LineTaken (State.Open sim txn begun) (State.Closed new begun) lines.Close (Some (entries.Closed n (close_status (state_of sim).world))) s p
+close-by : {budget : ℕ} (o : Option StoreTxn) (sim new : Sim) (txn : Txn) (begun : ℕ) (s : Played) (p : Store) (n : ℕ) → p.txn ≡ o → state_of new ≡ record (state_of sim) { world = closed (state_of sim).world } → IsIn sim begun s p → HasOpen txn o → LineTaken budget (State.Open sim txn begun) (State.Closed new begun) lines.Close (Some (entries.Closed n (close_status (state_of sim).world))) s p
 close-by None sim new txn begun s p n here is at h = absurd h
 close-by (Some t) sim new txn begun s p n here is at h =
     let status = sym (ap close_status at.world) in
@@ -156,6 +160,7 @@ close-by (Some t) sim new txn begun s p n here is at h =
       next = record p { cells = settle_cells t.asker.number None p.cells; txn = None };
       journal = ((status, refl), refl);
       gathers = (tt, refl);
+      cause = tt;
       plain = subst (λ o. Closes o (close_status (state_of sim).world) p (record p { cells = settle_cells t.asker.number None p.cells; txn = None })) (sym here)
           (status ∙ says ∙ sym (ap status_of h.fate), ap (λ f. record p { cells = settle_cells t.asker.number (commit_stamp f t.asker.stamp) p.cells; txn = None }) (sym h.fate));
       stands = (
@@ -170,5 +175,5 @@ close-by (Some t) sim new txn begun s p n here is at h =
       );
     }
 
-pub close-line : (sim new : Sim) (txn : Txn) (begun : ℕ) (s : Played) (p : Store) (n : ℕ) → state_of new ≡ record (state_of sim) { world = closed (state_of sim).world } → StandsAt (State.Open sim txn begun) s p → LineTaken (State.Open sim txn begun) (State.Closed new begun) lines.Close (Some (entries.Closed n (close_status (state_of sim).world))) s p
+pub close-line : {budget : ℕ} (sim new : Sim) (txn : Txn) (begun : ℕ) (s : Played) (p : Store) (n : ℕ) → state_of new ≡ record (state_of sim) { world = closed (state_of sim).world } → StandsAt (State.Open sim txn begun) s p → LineTaken budget (State.Open sim txn begun) (State.Closed new begun) lines.Close (Some (entries.Closed n (close_status (state_of sim).world))) s p
 close-line sim new txn begun s p n is at = close-by p.txn sim new txn begun s p n refl is at.0 at.2

@@ -12,6 +12,7 @@ use Rattle.ds_script.specs.Runs.{Plays, TakesEntry, has_entry}
 use Rattle.ds_replay.specs.declared.state.State.{State}
 use Rattle.ds_replay.specs.declared.state.State.TheVariants as State
 use Rattle.ds_replay.specs.Built.{Stage, Start, first_unbuilt, goes_on, next_stage, unbuilt_from}
+use Rattle.ds_replay.specs.Causes.{CauseTurn, first_told, AllCaused}
 use Rattle.ds_replay.specs.Stages.{IsWithin, StandsAt, stage_of}
 use Rattle.ds_replay.specs.Taken.{LineTaken, Taken, listed}
 
@@ -31,12 +32,13 @@ plays-more T (l0 ∷ ls) s m v log l e h takes turn =
 -- so far
 
 -- after so many lines: what was played, and the plain store
-pub record Replaying (done ahead : List Numbered) (n : ℕ) (state : State) (log : List Entry) : Type 0 where
+pub record Replaying (budget : ℕ) (done ahead : List Numbered) (n : ℕ) (state : State) (log : List Entry) : Type 0 where
   pub played : Played
   pub store : Store
   pub journal : Plays JournalTurn first_played done log played
   pub gathers : Plays GatherTurn no_asks done log played.asks
   pub plain : Plays PlainTurn empty_store done log store
+  pub causes : Plays (CauseTurn budget) first_told done log (record { asks = played.asks; store = store })
   pub stands : StandsAt state played store
   pub within : IsWithin state n
   pub built : unbuilt_from ahead (stage_of state) ≡ None
@@ -68,13 +70,14 @@ rise-few last (l ∷ ls) h low =
 kept-few : (ls : List Numbered) → keeps_rules ls ≡ true → 0 + length ls ≤ 20000
 kept-few ls h = rise-few 0 ls (and-first (numbers_rise 0 ls) _ h) (omega arith)
 
-pub replay-first : (lines : List Numbered) → keeps_rules lines ≡ true → first_unbuilt lines ≡ None → Replaying [] lines 0 State.Start []
+pub replay-first : {budget : ℕ} (lines : List Numbered) → keeps_rules lines ≡ true → first_unbuilt lines ≡ None → Replaying budget [] lines 0 State.Start []
 replay-first lines kept built = record {
   played = first_played;
   store = empty_store;
   journal = (refl, refl);
   gathers = (refl, refl);
   plain = (refl, refl);
+  causes = (refl, refl);
   stands = (refl, refl);
   within = tt;
   built = built;
@@ -85,7 +88,7 @@ goes-some : (o : Option Stage) (n : ℕ) (more : Stage → Option ℕ) → goes_
 goes-some None n more h = cc
 goes-some (Some s) n more h = refl
 
-pub replay-built : (done ahead : List Numbered) (n : ℕ) (state : State) (log : List Entry) (l : Numbered) → Replaying done (l ∷ ahead) n state log → IsSome (next_stage (stage_of state) l.line)
+pub replay-built : {budget : ℕ} (done ahead : List Numbered) (n : ℕ) (state : State) (log : List Entry) (l : Numbered) → Replaying budget done (l ∷ ahead) n state log → IsSome (next_stage (stage_of state) l.line)
 replay-built done ahead n state log l r = goes-some (next_stage (stage_of state) l.line) l.number (unbuilt_from ahead) r.built
 
 within-more : (state : State) (n m : ℕ) → n ≤ m → IsWithin state n → IsWithin state m
@@ -93,11 +96,11 @@ within-more State.Start n m le h = tt
 within-more (State.Closed sim begun) n m le h = let a = h.0 in let b = h.1 in (omega (arith, le, a), omega (arith, le, b))
 within-more (State.Open sim txn begun) n m le h = let a = h.0 in let b = h.1 in (omega (arith, le, a), omega (arith, le, b), h.2)
 
-pub replay-within : (done ahead : List Numbered) (n : ℕ) (state : State) (log : List Entry) (l : Numbered) → Replaying done (l ∷ ahead) n state log → IsWithin state 20000
+pub replay-within : {budget : ℕ} (done ahead : List Numbered) (n : ℕ) (state : State) (log : List Entry) (l : Numbered) → Replaying budget done (l ∷ ahead) n state log → IsWithin state 20000
 replay-within done ahead n state log l r = let few : n + length (l ∷ ahead) ≤ 20000 = r.few in within-more state n 20000 (omega (arith, few)) r.within
 
-pub replay-more : (done ahead : List Numbered) (n : ℕ) (state new : State) (log after : List Entry) (l : Numbered) → Replaying done (l ∷ ahead) n state log → Some (stage_of new) ≡ next_stage (stage_of state) l.line → ((n : ℕ) → IsWithin state n → IsWithin new (n + 1)) → Taken state new l log after → Replaying (done ++ l ∷ []) ahead (n + 1) new after
-replay-more done ahead n state new log after l r stage within taken =
+pub replay-more : {budget : ℕ} (done ahead : List Numbered) (n : ℕ) (state new : State) (log after : List Entry) (l : Numbered) → Replaying budget done (l ∷ ahead) n state log → Some (stage_of new) ≡ next_stage (stage_of state) l.line → ((n : ℕ) → IsWithin state n → IsWithin new (n + 1)) → Taken budget state new l log after → Replaying budget (done ++ l ∷ []) ahead (n + 1) new after
+replay-more {budget = budget} done ahead n state new log after l r stage within taken =
     let t = taken.line r.played r.store r.stands in
     let few : n + length (l ∷ ahead) ≤ 20000 = r.few in
     record {
@@ -106,6 +109,7 @@ replay-more done ahead n state new log after l r stage within taken =
       journal = subst (λ es. Plays JournalTurn first_played (done ++ l ∷ []) es t.played) (sym taken.logged) (plays-more JournalTurn done first_played r.played t.played log l taken.entry r.journal taken.takes t.journal);
       gathers = subst (λ es. Plays GatherTurn no_asks (done ++ l ∷ []) es t.played.asks) (sym taken.logged) (plays-more GatherTurn done no_asks r.played.asks t.played.asks log l taken.entry r.gathers taken.takes t.gathers);
       plain = subst (λ es. Plays PlainTurn empty_store (done ++ l ∷ []) es t.next) (sym taken.logged) (plays-more PlainTurn done empty_store r.store t.next log l taken.entry r.plain taken.takes t.plain);
+      causes = subst (λ es. Plays (CauseTurn budget) first_told (done ++ l ∷ []) es (record { asks = t.played.asks; store = t.next })) (sym taken.logged) (plays-more (CauseTurn budget) done first_told (record { asks = r.played.asks; store = r.store }) (record { asks = t.played.asks; store = t.next }) log l taken.entry r.causes taken.takes (t.cause, t.gathers.1, t.plain));
       stands = t.stands;
       within = within n r.within;
       built = subst (λ o. goes_on o l.number (unbuilt_from ahead) ≡ None) (sym stage) r.built;
@@ -133,15 +137,15 @@ take-suc (suc i) (y ∷ ys) x low is = ap (λ zs. y ∷ zs) (take-suc i ys x (om
 suc-is : (i : ℕ) → suc i ≡ i + 1
 suc-is i = omega arith
 
-pub here : (xs : List Numbered) (i : ℕ) (x : Numbered) (state : State) (log : List Entry) → i < length xs → x ≡ get_or xs i x → Replaying (take i xs) (drop i xs) i state log → Replaying (take i xs) (x ∷ drop (i + 1) xs) i state log
-here xs i x state log low is r =
-    subst (λ ahead. Replaying (take i xs) ahead i state log) (drop-suc i xs x low is ∙ ap (λ n. x ∷ drop n xs) (suc-is i)) r
+pub here : {budget : ℕ} (xs : List Numbered) (i : ℕ) (x : Numbered) (state : State) (log : List Entry) → i < length xs → x ≡ get_or xs i x → Replaying budget (take i xs) (drop i xs) i state log → Replaying budget (take i xs) (x ∷ drop (i + 1) xs) i state log
+here {budget = budget} xs i x state log low is r =
+    subst (λ ahead. Replaying budget (take i xs) ahead i state log) (drop-suc i xs x low is ∙ ap (λ n. x ∷ drop n xs) (suc-is i)) r
 
-pub next-lines : (xs : List Numbered) (i : ℕ) (x : Numbered) (state : State) (log : List Entry) → i < length xs → x ≡ get_or xs i x → Replaying (take i xs ++ x ∷ []) (drop (i + 1) xs) (i + 1) state log → Replaying (take (i + 1) xs) (drop (i + 1) xs) (i + 1) state log
-next-lines xs i x state log low is r =
-    subst (λ done. Replaying done (drop (i + 1) xs) (i + 1) state log) (sym (take-suc i xs x low is) ∙ ap (λ n. take n xs) (suc-is i)) r
+pub next-lines : {budget : ℕ} (xs : List Numbered) (i : ℕ) (x : Numbered) (state : State) (log : List Entry) → i < length xs → x ≡ get_or xs i x → Replaying budget (take i xs ++ x ∷ []) (drop (i + 1) xs) (i + 1) state log → Replaying budget (take (i + 1) xs) (drop (i + 1) xs) (i + 1) state log
+next-lines {budget = budget} xs i x state log low is r =
+    subst (λ done. Replaying budget done (drop (i + 1) xs) (i + 1) state log) (sym (take-suc i xs x low is) ∙ ap (λ n. take n xs) (suc-is i)) r
 
-pub whole-script : (lines xs : List Numbered) (i : ℕ) (state : State) (log : List Entry) → xs ≡ lines → take i xs ≡ xs → Replaying (take i xs) (drop i xs) i state log → LegalJournal lines log × AllGathered lines log × PlainRun lines log
+pub whole-script : {budget : ℕ} (lines xs : List Numbered) (i : ℕ) (state : State) (log : List Entry) → xs ≡ lines → take i xs ≡ xs → Replaying budget (take i xs) (drop i xs) i state log → LegalJournal lines log × AllGathered lines log × PlainRun lines log
 whole-script lines xs i state log same all r =
     let done = all ∙ same in (
       (r.played, subst (λ ls. Plays JournalTurn first_played ls log r.played) done r.journal),

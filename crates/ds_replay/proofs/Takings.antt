@@ -45,40 +45,40 @@ and-first false b h = h
 built-line : (stage : Stage) (l : Numbered) (x : Line) → l.line ≡ x → IsSome (next_stage stage l.line) → IsSome (next_stage stage x)
 built-line stage l x is built = subst (λ y. IsSome (next_stage stage y)) is built
 
-silent : (old new : State) (l : Numbered) (x : Line) (log : List Entry) → l.line ≡ x → has_entry x ≡ false → ((s : Played) (p : Store) → StandsAt old s p → LineTaken old new x None s p) → Taken old new l log log
-silent old new l x log is none line = no-entry old new l log (ap has_entry is ∙ none) (λ s p at. subst (λ y. LineTaken old new y None s p) (sym is) (line s p at))
+silent : {budget : ℕ} (old new : State) (l : Numbered) (x : Line) (log : List Entry) → l.line ≡ x → has_entry x ≡ false → ((s : Played) (p : Store) → StandsAt old s p → LineTaken budget old new x None s p) → Taken budget old new l log log
+silent {budget = budget} old new l x log is none line = no-entry old new l log (ap has_entry is ∙ none) (λ s p at. subst (λ y. LineTaken budget old new y None s p) (sym is) (line s p at))
 
-spoken : (old new : State) (l : Numbered) (x : Line) (log after : List Entry) (e : Entry) → l.line ≡ x → TakesEntry (has_entry x) l.number (e ∷ []) (Some e) [] → after ≡ log ++ e ∷ [] → ((s : Played) (p : Store) → StandsAt old s p → LineTaken old new x (Some e) s p) → Taken old new l log after
-spoken old new l x log after e is takes logged line =
+spoken : {budget : ℕ} (old new : State) (l : Numbered) (x : Line) (log after : List Entry) (e : Entry) → l.line ≡ x → TakesEntry (has_entry x) l.number (e ∷ []) (Some e) [] → after ≡ log ++ e ∷ [] → ((s : Played) (p : Store) → StandsAt old s p → LineTaken budget old new x (Some e) s p) → Taken budget old new l log after
+spoken {budget = budget} old new l x log after e is takes logged line =
     one-entry old new l log after e (subst (λ y. TakesEntry (has_entry y) l.number (e ∷ []) (Some e) []) (sym is) takes) logged
-    (λ s p at. subst (λ y. LineTaken old new y (Some e) s p) (sym is) (line s p at))
+    (λ s p at. subst (λ y. LineTaken budget old new y (Some e) s p) (sym is) (line s p at))
 
-pub cluster-taken : (sim : Sim) (c : Cluster) (l : Numbered) (log : List Entry) → l.line ≡ lines.Cluster c → IsSome (next_stage Start l.line) → state_of sim ≡ record { world = first_world c.ranges; past = []; floor = 0; refused = 0; lost = 0; ahead = [] } → Taken State.Start (State.Closed sim 0) l log log
+pub cluster-taken : {budget : ℕ} (sim : Sim) (c : Cluster) (l : Numbered) (log : List Entry) → l.line ≡ lines.Cluster c → IsSome (next_stage Start l.line) → state_of sim ≡ record { world = first_world c.ranges; past = []; floor = 0; refused = 0; lost = 0; ahead = [] } → Taken budget State.Start (State.Closed sim 0) l log log
 cluster-taken sim c l log is built made =
     silent State.Start (State.Closed sim 0) l (lines.Cluster c) log is refl
     (λ s p at. cluster-line sim c s p (and-first (tiles c.ranges) _ (some-if (is_cluster c.ranges) Closed (built-line Start l (lines.Cluster c) is built))) made at)
 
-pub write-closed-taken : (sim new : Sim) (begun : ℕ) (k : Key) (t : Stamp) (v : Option Value) (l : Numbered) (log : List Entry) → l.line ≡ lines.Write k t v → IsSome (next_stage Closed l.line) → state_of new ≡ record (state_of sim) { world = moved (state_of sim).world (Write k t v) } → Taken (State.Closed sim begun) (State.Closed new begun) l log log
+pub write-closed-taken : {budget : ℕ} (sim new : Sim) (begun : ℕ) (k : Key) (t : Stamp) (v : Option Value) (l : Numbered) (log : List Entry) → l.line ≡ lines.Write k t v → IsSome (next_stage Closed l.line) → state_of new ≡ record (state_of sim) { world = moved (state_of sim).world (Write k t v) } → Taken budget (State.Closed sim begun) (State.Closed new begun) l log log
 write-closed-taken sim new begun k t v l log is built made =
     silent (State.Closed sim begun) (State.Closed new begun) l (lines.Write k t v) log is refl
     (λ s p at. write-closed sim new begun s p k t v (some-if _ Closed (built-line Closed l (lines.Write k t v) is built)) made at)
 
-pub write-open-taken : (sim new : Sim) (txn : Txn) (begun : ℕ) (k : Key) (t : Stamp) (v : Option Value) (l : Numbered) (log : List Entry) → l.line ≡ lines.Write k t v → IsSome (next_stage (Open txn.stamp.0) l.line) → state_of new ≡ record (state_of sim) { world = moved (state_of sim).world (Write k t v) } → Taken (State.Open sim txn begun) (State.Open new txn begun) l log log
+pub write-open-taken : {budget : ℕ} (sim new : Sim) (txn : Txn) (begun : ℕ) (k : Key) (t : Stamp) (v : Option Value) (l : Numbered) (log : List Entry) → l.line ≡ lines.Write k t v → IsSome (next_stage (Open txn.stamp.0) l.line) → state_of new ≡ record (state_of sim) { world = moved (state_of sim).world (Write k t v) } → Taken budget (State.Open sim txn begun) (State.Open new txn begun) l log log
 write-open-taken sim new txn begun k t v l log is built made =
     silent (State.Open sim txn begun) (State.Open new txn begun) l (lines.Write k t v) log is refl
     (λ s p at. write-open sim new txn begun s p k t v (some-if _ (Open txn.stamp.0) (built-line (Open txn.stamp.0) l (lines.Write k t v) is built)) made at)
 
-pub begin-taken : (sim new : Sim) (begun : ℕ) (txn : Txn) (t : Stamp) (k : Key) (l : Numbered) (log : List Entry) → l.line ≡ lines.Begin t k → txn ≡ record { number = record { 0 = begun + 1 }; stamp = t; epoch = 0; last = record { 0 = 0 } } → state_of new ≡ record (state_of sim) { world = with_begin (record { number = begun + 1; stamp = t.0; epoch = 0; last = 0 }) (state_of sim).world } → Taken (State.Closed sim begun) (State.Open new txn (begun + 1)) l log log
+pub begin-taken : {budget : ℕ} (sim new : Sim) (begun : ℕ) (txn : Txn) (t : Stamp) (k : Key) (l : Numbered) (log : List Entry) → l.line ≡ lines.Begin t k → txn ≡ record { number = record { 0 = begun + 1 }; stamp = t; epoch = 0; last = record { 0 = 0 } } → state_of new ≡ record (state_of sim) { world = with_begin (record { number = begun + 1; stamp = t.0; epoch = 0; last = 0 }) (state_of sim).world } → Taken budget (State.Closed sim begun) (State.Open new txn (begun + 1)) l log log
 begin-taken sim new begun txn t k l log is who made =
     silent (State.Closed sim begun) (State.Open new txn (begun + 1)) l (lines.Begin t k) log is refl
     (λ s p at. begin-line sim new begun txn s p t k who made at)
 
-pub close-taken : (sim new : Sim) (txn : Txn) (begun : ℕ) (l : Numbered) (log after : List Entry) → l.line ≡ lines.Close → state_of new ≡ record (state_of sim) { world = closed (state_of sim).world } → after ≡ log ++ entries.Closed l.number (close_status (state_of sim).world) ∷ [] → Taken (State.Open sim txn begun) (State.Closed new begun) l log after
+pub close-taken : {budget : ℕ} (sim new : Sim) (txn : Txn) (begun : ℕ) (l : Numbered) (log after : List Entry) → l.line ≡ lines.Close → state_of new ≡ record (state_of sim) { world = closed (state_of sim).world } → after ≡ log ++ entries.Closed l.number (close_status (state_of sim).world) ∷ [] → Taken budget (State.Open sim txn begun) (State.Closed new begun) l log after
 close-taken sim new txn begun l log after is made logged =
     spoken (State.Open sim txn begun) (State.Closed new begun) l lines.Close log after (entries.Closed l.number (close_status (state_of sim).world)) is (refl, refl) logged
     (λ s p at. close-line sim new txn begun s p l.number made at)
 
-pub asked-closed-taken : (sim new : Sim) (begun budget : ℕ) (b : Batch) (block : Block) (l : Numbered) (log after : List Entry) → l.line ≡ lines.Batch b block → IsSome (next_stage Closed l.line) → AskedBy (state_of sim) (state_of new) budget None b l.number log after → Taken (State.Closed sim begun) (State.Closed new begun) l log after
+pub asked-closed-taken : (sim new : Sim) (begun budget : ℕ) (b : Batch) (block : Block) (l : Numbered) (log after : List Entry) → l.line ≡ lines.Batch b block → IsSome (next_stage Closed l.line) → AskedBy (state_of sim) (state_of new) budget None b l.number log after → Taken budget (State.Closed sim begun) (State.Closed new begun) l log after
 asked-closed-taken sim new begun budget b block l log after is built by =
     spoken (State.Closed sim begun) (State.Closed new begun) l (lines.Batch b block) log after (entries.Batch l.number by.steps by.outcome) is (refl, refl) by.logged
     (λ s p at. asked-closed sim new begun budget b block l.number log after s p by (some-if _ Closed (built-line Closed l (lines.Batch b block) is built)) at)
@@ -91,7 +91,7 @@ alone-for : (at : Option Stamp) → is_some at ≡ true → IsOpenFor at None
 alone-for None h = cc
 alone-for (Some s) h = tt
 
-pub asked-open-taken : (sim new : Sim) (txn : Txn) (begun budget : ℕ) (b : Batch) (block : Block) (l : Numbered) (log after : List Entry) → l.line ≡ lines.Batch b block → IsSome (next_stage (Open txn.stamp.0) l.line) → txn.last.0 ≡ 0 → AskedBy (state_of sim) (state_of new) budget (Some (asker_of txn)) b l.number log after → Taken (State.Open sim txn begun) (State.Open new txn begun) l log after
+pub asked-open-taken : (sim new : Sim) (txn : Txn) (begun budget : ℕ) (b : Batch) (block : Block) (l : Numbered) (log after : List Entry) → l.line ≡ lines.Batch b block → IsSome (next_stage (Open txn.stamp.0) l.line) → txn.last.0 ≡ 0 → AskedBy (state_of sim) (state_of new) budget (Some (asker_of txn)) b l.number log after → Taken budget (State.Open sim txn begun) (State.Open new txn begun) l log after
 asked-open-taken sim new txn begun budget b block l log after is built fresh by =
     spoken (State.Open sim txn begun) (State.Open new txn begun) l (lines.Batch b block) log after (entries.Batch l.number by.steps by.outcome) is (refl, refl) by.logged
     (λ s p at. asked-open sim new txn begun budget b block l.number log after s p by (some-if _ (Open txn.stamp.0) (built-line (Open txn.stamp.0) l (lines.Batch b block) is built)) (open-for b.at txn fresh) at)

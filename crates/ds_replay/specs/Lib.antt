@@ -1,5 +1,6 @@
 pub mod Asked
 pub mod Built
+pub mod Causes
 pub mod Forms
 pub mod Stages
 pub mod Taken

@@ -8,6 +8,7 @@ use Rattle.ds_script.specs.Runs.{has_entry, line_of, TakesEntry}
 use Rattle.ds_script.specs.Journals.{Asks, Played, JournalTurn, GatherTurn}
 use Rattle.ds_script.specs.PlainRuns.{PlainTurn}
 use Rattle.ds_replay.specs.declared.state.State.{State}
+use Rattle.ds_replay.specs.Causes.{EntryCause}
 use Rattle.ds_replay.specs.Stages.{StandsAt}
 
 abbrev pub listed : Option Entry → List Entry
@@ -15,18 +16,19 @@ listed None = []
 listed (Some e) = e ∷ []
 
 -- a line with its entry leads from where a replay stands to where it stands then: the journal goes on as the world
--- does, an Ok answer is gathered, and the plain store goes on
-pub record LineTaken (old new : State) (l : Line) (e : Option Entry) (s : Played) (p : Store) : Type 0 where
+-- does, an Ok answer is gathered, the plain store goes on, and an answer has its cause
+pub record LineTaken (budget : ℕ) (old new : State) (l : Line) (e : Option Entry) (s : Played) (p : Store) : Type 0 where
   pub played : Played
   pub next : Store
   pub journal : JournalTurn s l e played
   pub gathers : GatherTurn s.asks l e played.asks
   pub plain : PlainTurn p l e next
   pub stands : StandsAt new played next
+  pub cause : EntryCause budget s.asks p l e
 
 -- so from wherever it stood
-pub record Taken (old new : State) (l : Numbered) (log after : List Entry) : Type 0 where
+pub record Taken (budget : ℕ) (old new : State) (l : Numbered) (log after : List Entry) : Type 0 where
   pub entry : Option Entry
   pub takes : TakesEntry (has_entry l.line) l.number (listed entry) entry []
   pub logged : after ≡ log ++ listed entry
-  pub line : (s : Played) (p : Store) → StandsAt old s p → LineTaken old new l.line entry s p
+  pub line : (s : Played) (p : Store) → StandsAt old s p → LineTaken budget old new l.line entry s p

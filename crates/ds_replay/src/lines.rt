@@ -40,7 +40,7 @@ fn from_start(alloc: Global, numbered: &Numbered, log: &RunLog) -> Result<State,
     requires { IsSome (next_stage Start numbered.now.line) }
     ensures stage { IfOk result (λ new. Some (stage_of new) ≡ next_stage Start numbered.now.line) }
     ensures within { IfOk result (λ new. (n : ℕ) → IsWithin new n) }
-    ensures taken { IfOk result (λ new. Taken State.Start new numbered.now log.now log.now) }
+    ensures taken { IfOk result (λ new. (budget : ℕ) → Taken budget State.Start new numbered.now log.now log.now) }
 {
     match &numbered.line {
         Line::Cluster(cluster) => Ok(State::Closed {
@@ -64,8 +64,9 @@ fn from_closed(
     requires texts { has_texts log.old ≡ true }
     ensures stage { IfOk result (λ new. Some (stage_of new) ≡ next_stage Closed numbered.now.line) }
     ensures within { IfOk result (λ new. (n : ℕ) → IsWithin (State.Closed sim begun) n → IsWithin new (n + 1)) }
-    ensures taken { IfOk result (λ new. Taken (State.Closed sim begun) new numbered.now log.old log.new) }
+    ensures taken { IfOk result (λ new. Taken (sender.old).budget (State.Closed sim begun) new numbered.now log.old log.new) }
     ensures texts { IfOk result (λ _. has_texts log.new ≡ true) }
+    ensures kept { IfOk result (λ _. sender.new ≡ sender.old) }
 {
     let mut sim = sim;
     match &numbered.line {
@@ -102,8 +103,9 @@ fn from_open(
     requires texts { has_texts log.old ≡ true }
     ensures stage { IfOk result (λ new. Some (stage_of new) ≡ next_stage (Open txn.stamp.0) numbered.now.line) }
     ensures within { IfOk result (λ new. (n : ℕ) → IsWithin (State.Open sim txn begun) n → IsWithin new (n + 1)) }
-    ensures taken { IfOk result (λ new. Taken (State.Open sim txn begun) new numbered.now log.old log.new) }
+    ensures taken { IfOk result (λ new. Taken (sender.old).budget (State.Open sim txn begun) new numbered.now log.old log.new) }
     ensures texts { IfOk result (λ _. has_texts log.new ≡ true) }
+    ensures kept { IfOk result (λ _. sender.new ≡ sender.old) }
 {
     let mut sim = sim;
     match &numbered.line {
@@ -137,8 +139,9 @@ pub(crate) fn take(
     requires texts { has_texts log.old ≡ true }
     ensures stage { IfOk result (λ new. Some (stage_of new) ≡ next_stage (stage_of state) numbered.now.line) }
     ensures within { IfOk result (λ new. (n : ℕ) → IsWithin state n → IsWithin new (n + 1)) }
-    ensures taken { IfOk result (λ new. Taken state new numbered.now log.old log.new) }
+    ensures taken { IfOk result (λ new. Taken (sender.old).budget state new numbered.now log.old log.new) }
     ensures texts { IfOk result (λ _. has_texts log.new ≡ true) }
+    ensures kept { IfOk result (λ _. sender.new ≡ sender.old) }
 {
     match state {
         State::Start => from_start(alloc, numbered, log),
