@@ -2,6 +2,7 @@
 use Rattle.std.proofs.Common.{◌≡◌, ℕ, suc, ◌+◌, ◌<◌, ◌==◌, Bool, true, false, cond, ◌&&◌, List, [], ◌∷◌, ◌++◌, map, length, Option, Some, None, is_some, is_none, inl, inr, refl, sym, ap, ◌∙◌, subst, nat_lt, arith}
 use Rattle.std.specs.List.{list_all}
 use Rattle.std.proofs.lemmas.Bool.Decides.{nat_tests}
+use Rattle.ds_base.proofs.KeyOrder.{and_first, and_second}
 use Rattle.ds_base.specs.declared.value.Stamp.{Stamp}
 use Rattle.ds_kind.specs.Asks.{is_get_or_scan, has_proper_span}
 use Rattle.ds_kind.specs.declared.batch.Batch.{Batch}
@@ -40,14 +41,6 @@ use Rattle.ds_replay.specs.Built.{is_sent, is_quiet}
 use Rattle.ds_replay.proofs.Answering.{Came, came-each, came-whole, came-illegal}
 use Rattle.ds_replay.proofs.Blocks.{steps-made}
 use Rattle.ds_replay.proofs.Readiness.{is-asked}
-
-and-first : (a b : Bool) → (a && b) ≡ true → a ≡ true
-and-first true b h = refl
-and-first false b h = h
-
-and-second : (a b : Bool) → (a && b) ≡ true → b ≡ true
-and-second true b h = h
-and-second false b h = cc
 
 -- all that a batch's line owes: who asks, that the cluster is ready, what the batch may do, and that its transaction is
 -- pending
@@ -96,7 +89,7 @@ empty-of (x ∷ xs) h = absurd (some (length xs) h)
     some n h = grind (arith, nat_tests)
 
 pub quiet-block : (b : Batch) (block : Block) → is_sent b block ≡ true → block.events ≡ []
-quiet-block b block h = empty-of block.events (and-first (length block.events == 0) _ (and-second (Sends.is_built b) _ h))
+quiet-block b block h = empty-of block.events (and_first (length block.events == 0) _ (and_second (Sends.is_built b) _ h))
 
 -- the line's turns, and the store at its end
 pub record Turned (s : Played) (p : Store) (b : Batch) (block : Block) (n : ℕ) (steps : List JournalStep) (o : Outcome) (w : World) : Type 0 where

@@ -3,6 +3,7 @@ use Rattle.std.proofs.Common.{◌≡◌, ℕ, ◌+◌, ◌<◌, ◌≤◌, Bool,
 use Rattle.std.specs.List.{list_all}
 use Rattle.std.specs.Option.{option_map}
 use Rattle.std.proofs.lemmas.Bool.Decides.{nat_tests}
+use Rattle.ds_base.proofs.KeyOrder.{and_first, and_second}
 use Rattle.ds_base.specs.declared.value.Stamp.{Stamp}
 use Rattle.ds_kind.specs.declared.batch.Batch.{Batch}
 use Rattle.ds_kind.specs.declared.request.Request.{Request}
@@ -38,16 +39,8 @@ use Rattle.ds_replay.specs.Stages.{IsIn, IsOpenIn, HasOpen, StandsAt}
 use Rattle.ds_replay.specs.Taken.{LineTaken}
 use Rattle.ds_replay.proofs.Answering.{Came, IsSure, pends-any}
 use Rattle.ds_replay.proofs.AskedLine.{Owes, Turned, came, turned}
-use Rattle.ds_replay.proofs.Readiness.{ready-alone, ready-open}
+use Rattle.ds_replay.proofs.Readiness.{lt_of, ready-alone, ready-open}
 use Rattle.ds_replay.proofs.Staying.{asker-stays, no-numbers, same-begun, same-txn, still-open}
-
-and-first : (a b : Bool) → (a && b) ≡ true → a ≡ true
-and-first true b h = refl
-and-first false b h = h
-
-and-second : (a b : Bool) → (a && b) ≡ true → b ≡ true
-and-second true b h = h
-and-second false b h = cc
 
 some-of : (o : Option Stamp) → is_some o ≡ true → (s : Stamp) × (o ≡ Some s)
 some-of None h = cc
@@ -76,10 +69,10 @@ owes-closed sim begun s p b at is here =
 
 pub asked-closed : (sim new : Sim) (begun budget : ℕ) (b : Batch) (block : Block) (n : ℕ) (log after : List Entry) (s : Played) (p : Store) (by : AskedBy (state_of sim) (state_of new) budget None b n log after) → (is_some b.at && is_sent b block) ≡ true → StandsAt (State.Closed sim begun) s p → LineTaken budget (State.Closed sim begun) (State.Closed new begun) (lines.Batch b block) (Some (entries.Batch n by.steps by.outcome)) s p
 asked-closed sim new begun budget b block n log after s p by fits here =
-    let at = some-of b.at (and-first (is_some b.at) _ fits) in
-    let sent = and-second (is_some b.at) _ fits in
+    let at = some-of b.at (and_first (is_some b.at) _ fits) in
+    let sent = and_second (is_some b.at) _ fits in
     let owes = owes-closed sim begun s p b at.0 at.1 here in
-    let c = came (state_of sim) (state_of new) budget None p b s.asks n log after by (and-first (Sends.is_built b) _ sent) owes refl in
+    let c = came (state_of sim) (state_of new) budget None p b s.asks n log after by (and_first (Sends.is_built b) _ sent) owes refl in
     let tn = turned budget s (state_of sim) by.mid None p b block n c.0 by.steps by.outcome here.0.world here.1 sent c.1 by.past c.2 in
     record {
       played = record { world = by.mid.world; asks = answered_asks b by.outcome s.asks };
@@ -104,14 +97,11 @@ asked-closed sim new begun budget b block n log after s p by fits here =
 
 reads-of : (at : Option Stamp) (t : ℕ) (rs : List Request) (c : Bool) → may_stand_by t at rs ≡ true → (is_some at && c) ≡ true → list_all Sends.is_plain_read rs ≡ true
 reads-of None t rs c m w = cc
-reads-of (Some s) t rs c m w = and-second (nat_lt s.0 t) _ m
-
-lt_of : (n m : ℕ) → nat_lt n m ≡ true → n < m
-lt_of n m h = grind (arith, nat_tests)
+reads-of (Some s) t rs c m w = and_second (nat_lt s.0 t) _ m
 
 below-of : (at : Option Stamp) (t : ℕ) (rs : List Request) → may_stand_by t at rs ≡ true → (s : Stamp) → at ≡ Some s → s.0 < t
 below-of None t rs m s is = cc
-below-of (Some x) t rs m s is = lt_of s.0 t (subst (λ y. nat_lt y.0 t ≡ true) (same x s is) (and-first (nat_lt x.0 t) _ m))
+below-of (Some x) t rs m s is = lt_of s.0 t (subst (λ y. nat_lt y.0 t ≡ true) (same x s is) (and_first (nat_lt x.0 t) _ m))
   where
     same : (x s : Stamp) → Some x ≡ Some s → x ≡ s
     same x s h = cc
@@ -139,7 +129,7 @@ owes-open (Some t) sim txn begun s p b here may asked at who h =
     }
 
 unnumbered : (b : Batch) → b.at ≡ None → Sends.is_built b ≡ true → count_numbered b.requests ≡ 0
-unnumbered b is built = no-numbers b.requests (subst (λ at. list_all (Sends.is_built_request at) b.requests ≡ true) is (and-second (is_none b.limit) _ built))
+unnumbered b is built = no-numbers b.requests (subst (λ at. list_all (Sends.is_built_request at) b.requests ≡ true) is (and_second (is_none b.limit) _ built))
 
 asker-open : (at : Option Stamp) (b : Batch) (o : Outcome) (x : Option Asker) (t : Asker) → b.at ≡ at → Sends.is_built b ≡ true → x ≡ Some t → if_of_txn at (asker_after b o) x ≡ Some t
 asker-open (Some s) b o x t is built h = h
@@ -151,9 +141,9 @@ open-after (Some s) txn b o p next is built sure h ans = subst (HasOpen txn) (sy
 
 pub asked-open : (sim new : Sim) (txn : Txn) (begun budget : ℕ) (b : Batch) (block : Block) (n : ℕ) (log after : List Entry) (s : Played) (p : Store) (by : AskedBy (state_of sim) (state_of new) budget (Some (asker_of txn)) b n log after) → (may_stand_by txn.stamp.0 b.at b.requests && is_sent b block) ≡ true → IsOpenFor b.at (Some (asker_of txn)) → StandsAt (State.Open sim txn begun) s p → LineTaken budget (State.Open sim txn begun) (State.Open new txn begun) (lines.Batch b block) (Some (entries.Batch n by.steps by.outcome)) s p
 asked-open sim new txn begun budget b block n log after s p by fits asked here =
-    let may = and-first (may_stand_by txn.stamp.0 b.at b.requests) _ fits in
-    let sent = and-second (may_stand_by txn.stamp.0 b.at b.requests) _ fits in
-    let built = and-first (Sends.is_built b) _ sent in
+    let may = and_first (may_stand_by txn.stamp.0 b.at b.requests) _ fits in
+    let sent = and_second (may_stand_by txn.stamp.0 b.at b.requests) _ fits in
+    let built = and_first (Sends.is_built b) _ sent in
     let owes = owes-open p.txn sim txn begun s p b refl may asked here.0 here.1 here.2 in
     let c = came (state_of sim) (state_of new) budget (Some (asker_of txn)) p b s.asks n log after by built owes refl in
     let tn = turned budget s (state_of sim) by.mid (Some (asker_of txn)) p b block n c.0 by.steps by.outcome here.0.world here.1 sent c.1 by.past c.2 in

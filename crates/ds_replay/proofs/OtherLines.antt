@@ -1,6 +1,7 @@
 -- The lines of a script but for batches.
 use Rattle.std.proofs.Common.{◌≡◌, ℕ, ◌+◌, ◌<◌, ◌≤◌, Bool, true, false, ◌&&◌, List, [], ◌∷◌, ◌++◌, Option, Some, None, refl, sym, ap, ◌∙◌, subst, nat_lt, arith}
 use Rattle.std.proofs.lemmas.Bool.Decides.{nat_tests}
+use Rattle.ds_base.proofs.KeyOrder.{and_first, and_second}
 use Rattle.ds_base.specs.Order.{key_lt, bound}
 use Rattle.ds_base.specs.declared.key.Key.{Key}
 use Rattle.ds_base.specs.declared.value.Stamp.{Stamp}
@@ -36,6 +37,7 @@ use Rattle.ds_replay.specs.declared.state.State.{State}
 use Rattle.ds_replay.specs.declared.state.State.TheVariants as State
 use Rattle.ds_replay.specs.Stages.{IsIn, IsOpenIn, HasOpen, StandsAt}
 use Rattle.ds_replay.specs.Taken.{LineTaken, Taken, listed}
+use Rattle.ds_replay.proofs.Readiness.{lt_of}
 
 append-nil : (log : List Entry) → log ≡ log ++ []
 append-nil [] = refl
@@ -77,21 +79,10 @@ cluster-line sim c s p tile is at = record {
 
 -- a write
 
-lt_of : (n m : ℕ) → nat_lt n m ≡ true → n < m
-lt_of n m h = grind (arith, nat_tests)
-
-and-first : (a b : Bool) → (a && b) ≡ true → a ≡ true
-and-first true b h = refl
-and-first false b h = h
-
-and-second : (a b : Bool) → (a && b) ≡ true → b ≡ true
-and-second true b h = h
-and-second false b h = cc
-
 write-in : (sim new : Sim) (begun : ℕ) (s : Played) (p : Store) (k : Key) (t : Stamp) (v : Option Value) (floor : ℕ) → (key_lt k bound && nat_lt floor t.0) ≡ true → open_stamp p.txn ≤ floor → state_of new ≡ record (state_of sim) { world = moved (state_of sim).world (Write k t v) } → IsIn sim begun s p → IsIn new begun (record s { world = moved s.world (Write k t v) }) (after_event (Write k t v) p)
 write-in sim new begun s p k t v floor fits low is at = record {
   world = ap (λ w. moved w (Write k t v)) at.world ∙ sym (ap (λ z. z.world) is);
-  stands = stands-moved s.world p (Write k t v) floor (lt_of floor t.0 (and-second (key_lt k bound) _ fits), and-first (key_lt k bound) _ fits) low at.stands;
+  stands = stands-moved s.world p (Write k t v) floor (lt_of floor t.0 (and_second (key_lt k bound) _ fits), and_first (key_lt k bound) _ fits) low at.stands;
   played = at.played;
   stored = at.stored;
 }

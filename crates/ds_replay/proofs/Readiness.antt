@@ -33,7 +33,7 @@ ready-alone a p b q s st none at asks =
     asker_of_txn None = None
     asker_of_txn (Some t) = Some t.asker
 
-lt_of : (n m : ℕ) → nat_lt n m ≡ true → n < m
+pub lt_of : (n m : ℕ) → nat_lt n m ≡ true → n < m
 lt_of n m h = grind (arith, nat_tests)
 
 -- beside an open transaction, or of it

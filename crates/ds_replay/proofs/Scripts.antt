@@ -1,6 +1,7 @@
 -- Whole scripts, one line after another.
 use Rattle.std.proofs.Common.{◌≡◌, ℕ, zero, suc, get_or, ◌+◌, ◌<◌, ◌≤◌, Bool, true, false, ◌&&◌, List, [], ◌∷◌, ◌++◌, length, take, drop, Option, Some, None, IsSome, nat_lt, nat_le, refl, sym, ap, ◌∙◌, subst, arith}
 use Rattle.std.proofs.lemmas.Bool.Decides.{nat_tests}
+use Rattle.ds_base.proofs.KeyOrder.{and_first, and_second}
 use Rattle.ds_cell.specs.Store.{Store, empty_store}
 use Rattle.ds_rule.specs.declared.journal.Entry.{Entry}
 use Rattle.ds_script.specs.declared.line.Line.{Line}
@@ -15,6 +16,7 @@ use Rattle.ds_replay.specs.Built.{Stage, Start, first_unbuilt, goes_on, next_sta
 use Rattle.ds_replay.specs.Causes.{CauseTurn, first_told, AllCaused}
 use Rattle.ds_replay.specs.Stages.{IsWithin, StandsAt, stage_of}
 use Rattle.ds_replay.specs.Taken.{LineTaken, Taken, listed}
+use Rattle.ds_replay.proofs.Readiness.{lt_of}
 
 -- a line after others
 
@@ -44,31 +46,20 @@ pub record Replaying (budget : ℕ) (done ahead : List Numbered) (n : ℕ) (stat
   pub built : unbuilt_from ahead (stage_of state) ≡ None
   pub few : n + length ahead ≤ 20000
 
-and-first : (a b : Bool) → (a && b) ≡ true → a ≡ true
-and-first true b h = refl
-and-first false b h = h
-
-and-second : (a b : Bool) → (a && b) ≡ true → b ≡ true
-and-second true b h = h
-and-second false b h = cc
-
-lt_of : (n m : ℕ) → nat_lt n m ≡ true → n < m
-lt_of n m h = grind (arith, nat_tests)
-
 le_of : (n m : ℕ) → nat_le n m ≡ true → n ≤ m
 le_of n m h = grind (arith, nat_tests)
 
 rise-few : (last : ℕ) (ls : List Numbered) → numbers_rise last ls ≡ true → last ≤ 20000 → last + length ls ≤ 20000
 rise-few last [] h low = omega (arith, low)
 rise-few last (l ∷ ls) h low =
-    let both = and-first (nat_lt last l.number && nat_le l.number 20000) (numbers_rise l.number ls) h in
-    let up : last < l.number = lt_of last l.number (and-first (nat_lt last l.number) (nat_le l.number 20000) both) in
-    let top : l.number ≤ 20000 = le_of l.number 20000 (and-second (nat_lt last l.number) (nat_le l.number 20000) both) in
-    let more = rise-few l.number ls (and-second (nat_lt last l.number && nat_le l.number 20000) (numbers_rise l.number ls) h) top in
+    let both = and_first (nat_lt last l.number && nat_le l.number 20000) (numbers_rise l.number ls) h in
+    let up : last < l.number = lt_of last l.number (and_first (nat_lt last l.number) (nat_le l.number 20000) both) in
+    let top : l.number ≤ 20000 = le_of l.number 20000 (and_second (nat_lt last l.number) (nat_le l.number 20000) both) in
+    let more = rise-few l.number ls (and_second (nat_lt last l.number && nat_le l.number 20000) (numbers_rise l.number ls) h) top in
     omega (arith, up, more)
 
 kept-few : (ls : List Numbered) → keeps_rules ls ≡ true → 0 + length ls ≤ 20000
-kept-few ls h = rise-few 0 ls (and-first (numbers_rise 0 ls) _ h) (omega arith)
+kept-few ls h = rise-few 0 ls (and_first (numbers_rise 0 ls) _ h) (omega arith)
 
 pub replay-first : {budget : ℕ} (lines : List Numbered) → keeps_rules lines ≡ true → first_unbuilt lines ≡ None → Replaying budget [] lines 0 State.Start []
 replay-first lines kept built = record {

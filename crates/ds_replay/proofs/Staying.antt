@@ -2,6 +2,7 @@
 use Rattle.std.proofs.Common.{◌≡◌, ℕ, ◌+◌, Bool, true, false, cond, ◌&&◌, ◌||◌, List, [], ◌∷◌, length, filter, Option, Some, None, refl, sym, ap, ◌∙◌, subst, arith}
 use Rattle.std.specs.List.{list_all}
 use Rattle.std.specs.Option.{option_map}
+use Rattle.ds_base.proofs.KeyOrder.{and_first, and_second}
 use Rattle.ds_base.specs.declared.value.Stamp.{Stamp}
 use Rattle.ds_kind.specs.Asks.{takes_number}
 use Rattle.ds_kind.specs.declared.batch.Batch.{Batch}
@@ -38,19 +39,11 @@ plain-number (ResolveIntentRange a) h = cc
 plain-number (AdminSplit a) h = cc
 plain-number (AdminTransferLease a) h = cc
 
-and-first : (a b : Bool) → (a && b) ≡ true → a ≡ true
-and-first true b h = refl
-and-first false b h = h
-
-and-second : (a b : Bool) → (a && b) ≡ true → b ≡ true
-and-second true b h = h
-and-second false b h = cc
-
 pub no-numbers : (rs : List Request) → list_all is_plain_read rs ≡ true → count_numbered rs ≡ 0
 no-numbers [] h = refl
 no-numbers (r ∷ rs) h =
-    ap (λ t. length (cond t (r ∷ filter takes_number rs) (filter takes_number rs))) (plain-number r (and-first (is_plain_read r) _ h))
-    ∙ no-numbers rs (and-second (is_plain_read r) _ h)
+    ap (λ t. length (cond t (r ∷ filter takes_number rs) (filter takes_number rs))) (plain-number r (and_first (is_plain_read r) _ h))
+    ∙ no-numbers rs (and_second (is_plain_read r) _ h)
 
 pub asker-stays : (b : Batch) (o : Outcome) (t : Asker) → count_numbered b.requests ≡ 0 → asker_after b o t ≡ t
 asker-stays b o t none = either (uses_numbers o)

@@ -1,5 +1,6 @@
 -- What the replay of each line makes.
 use Rattle.std.proofs.Common.{◌≡◌, ℕ, ◌+◌, ◌≤◌, Bool, true, false, ◌&&◌, List, [], ◌∷◌, ◌++◌, Option, Some, None, is_some, IsSome, if◌then◌else◌, refl, sym, ap, ◌∙◌, subst, arith}
+use Rattle.ds_base.proofs.KeyOrder.{and_first}
 use Rattle.ds_base.specs.Order.{key_lt, bound}
 use Rattle.ds_base.specs.declared.key.Key.{Key}
 use Rattle.ds_base.specs.declared.value.Stamp.{Stamp}
@@ -38,10 +39,6 @@ some-if : (b : Bool) (x : Stage) → IsSome (if b then Some x else None) → b �
 some-if true x h = refl
 some-if false x h = cc
 
-and-first : (a b : Bool) → (a && b) ≡ true → a ≡ true
-and-first true b h = refl
-and-first false b h = h
-
 built-line : (stage : Stage) (l : Numbered) (x : Line) → l.line ≡ x → IsSome (next_stage stage l.line) → IsSome (next_stage stage x)
 built-line stage l x is built = subst (λ y. IsSome (next_stage stage y)) is built
 
@@ -56,7 +53,7 @@ spoken {budget = budget} old new l x log after e is takes logged line =
 pub cluster-taken : {budget : ℕ} (sim : Sim) (c : Cluster) (l : Numbered) (log : List Entry) → l.line ≡ lines.Cluster c → IsSome (next_stage Start l.line) → state_of sim ≡ record { world = first_world c.ranges; past = []; floor = 0; refused = 0; lost = 0; ahead = [] } → Taken budget State.Start (State.Closed sim 0) l log log
 cluster-taken sim c l log is built made =
     silent State.Start (State.Closed sim 0) l (lines.Cluster c) log is refl
-    (λ s p at. cluster-line sim c s p (and-first (tiles c.ranges) _ (some-if (is_cluster c.ranges) Closed (built-line Start l (lines.Cluster c) is built))) made at)
+    (λ s p at. cluster-line sim c s p (and_first (tiles c.ranges) _ (some-if (is_cluster c.ranges) Closed (built-line Start l (lines.Cluster c) is built))) made at)
 
 pub write-closed-taken : {budget : ℕ} (sim new : Sim) (begun : ℕ) (k : Key) (t : Stamp) (v : Option Value) (l : Numbered) (log : List Entry) → l.line ≡ lines.Write k t v → IsSome (next_stage Closed l.line) → state_of new ≡ record (state_of sim) { world = moved (state_of sim).world (Write k t v) } → Taken budget (State.Closed sim begun) (State.Closed new begun) l log log
 write-closed-taken sim new begun k t v l log is built made =
@@ -104,7 +101,7 @@ count-open sim new txn budget b n log after fresh by = asked-count (state_of sim
 pub count-closed : (sim new : Sim) (budget : ℕ) (b : Batch) (block : Block) (l : Numbered) (log after : List Entry) → l.line ≡ lines.Batch b block → IsSome (next_stage Closed l.line) → AskedBy (state_of sim) (state_of new) budget None b l.number log after → new.count ≡ sim.count
 count-closed sim new budget b block l log after is built by =
     asked-count (state_of sim) (state_of new) budget None b l.number log after
-    (alone-for b.at (and-first (is_some b.at) _ (some-if (is_some b.at && is_sent b block) Closed (built-line Closed l (lines.Batch b block) is built)))) by
+    (alone-for b.at (and_first (is_some b.at) _ (some-if (is_some b.at && is_sent b block) Closed (built-line Closed l (lines.Batch b block) is built)))) by
 
 pub one-more : (sim new : Sim) (m : ℕ) → new.count ≡ sim.count → sim.count ≤ m → new.count ≤ m + 1
 one-more sim new m same h = omega (arith, same, h)

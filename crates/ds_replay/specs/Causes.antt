@@ -1,7 +1,8 @@
 -- Why each answer of a log was given.
-use Rattle.std.specs.Prelude.{◌≡◌, ℕ, Bool, true, false, List, [], map, Option, Some, None}
+use Rattle.std.specs.Prelude.{◌≡◌, ℕ, Bool, true, false, List, [], map, Option, Some, None, refl}
 use Rattle.ds_kind.specs.declared.batch.Batch.{Batch}
 use Rattle.ds_kind.specs.declared.illegal.Illegal.{Illegal}
+use Rattle.ds_kind.specs.declared.illegal.Illegal.TheVariants as Illegal
 use Rattle.ds_legal.specs.Rules.{first_illegal}
 use Rattle.ds_cell.specs.Store.{Store, empty_store}
 use Rattle.ds_rule.specs.declared.answer.Outcome.{Outcome}
@@ -50,3 +51,12 @@ CauseTurn budget s l e v = EntryCause budget s.asks s.store l e × (v.asks ≡ a
 -- each answer has its cause, with this budget of refusals and losses
 abbrev pub AllCaused : ℕ → List Numbered → List Entry → Type 0
 AllCaused budget script log = (v : Told) × Plays (CauseTurn budget) first_told script log v
+
+no_requests : Batch
+no_requests = record { at = Some (record { 0 = 5 }); consistent = true; limit = None; requests = [] }
+
+a_broken_rule_is_named : BatchCause 1 (Some Illegal.Empty) no_asks empty_store no_requests [] (Outcome.Illegal Illegal.Empty)
+a_broken_rule_is_named = (refl, refl)
+
+no_other_rule_is_named : BatchCause 1 (Some Illegal.Empty) no_asks empty_store no_requests [] (Outcome.Illegal Illegal.TooMany) → ⊥
+no_other_rule_is_named h = let named : Outcome.Illegal Illegal.TooMany ≡ Outcome.Illegal Illegal.Empty = h.0 in cc
