@@ -1,6 +1,7 @@
 pub mod Alike
 pub mod Course
 pub mod Delivered
+pub mod Examples
 pub mod Failing
 pub mod Gathering
 pub mod Joining
