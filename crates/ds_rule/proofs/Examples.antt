@@ -10,6 +10,7 @@ use Rattle.ds_desc.specs.declared.desc.RangeDesc.{RangeDesc}
 use Rattle.ds_desc.specs.declared.refusal.Refusal.TheVariants.{NotFound, NotLease, Mismatch}
 use Rattle.ds_kind.specs.Numbers.{numbers_from}
 use Rattle.ds_kind.specs.Parts.{items_from}
+use Rattle.ds_kind.specs.declared.batch.Batch.{Batch}
 use Rattle.ds_kind.specs.declared.batch.Head.{Head}
 use Rattle.ds_kind.specs.declared.batch.Piece.{Piece}
 use Rattle.ds_kind.specs.declared.reply.Body.{Body}
@@ -29,6 +30,7 @@ use Rattle.ds_rule.specs.declared.event.Event.TheVariants as Event
 use Rattle.ds_rule.specs.declared.record.RecordStatus.{RecordStatus}
 use Rattle.ds_rule.specs.declared.record.RecordStatus.TheVariants as Status
 use Rattle.ds_rule.specs.declared.record.TxnRecord.{TxnRecord}
+use Rattle.ds_rule.specs.Asking.{Asking, numbered}
 use Rattle.ds_rule.specs.Deliver.{deliver_answer, deliver_world}
 use Rattle.ds_rule.specs.Moves.{moved}
 use Rattle.ds_rule.specs.World.{World, Range, Tiles, cell_of, look_rows, look_world}
@@ -102,6 +104,13 @@ by_txn n = record { at = record { 0 = 10 }; txn = Some (record { 0 = n }); left 
 -- all these requests in one piece for a range
 abbrev pub piece : Head → ℕ → List Request → Piece
 piece h id rs = record { head = h; range = id; items = items_from 0 rs (numbers_from 0 rs); dir = Forward }
+
+-- a batch at a stamp, and as it is asked
+abbrev pub batch_at : ℕ → List Request → Batch
+batch_at s rs = record { at = Some (record { 0 = s }); consistent = true; limit = None; requests = rs }
+
+abbrev pub asked_at : ℕ → List Request → Asking
+asked_at s rs = numbered (alone_at s) 0 (batch_at s rs)
 
 abbrev pub saying : Body → Reply
 saying b = record { body = b; resume = None }

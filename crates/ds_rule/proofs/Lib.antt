@@ -2,6 +2,7 @@ pub mod Alike
 pub mod Course
 pub mod Delivered
 pub mod Examples
+pub mod ExamplesOfJournals
 pub mod Failing
 pub mod Gathering
 pub mod Joining
