@@ -199,7 +199,7 @@ it_stays_for_a_key_that_it_doesnt_contain = refl
 
 -- ---- what the ranges hold
 
-two_ranges_tile : Tiles [] (low ∷ high ∷ [])
+pub two_ranges_tile : Tiles [] (low ∷ high ∷ [])
 two_ranges_tile = (
   record { begins = refl; some = refl; rising = (tt, tt); inside = (refl, tt) },
   (record { begins = refl; some = refl; rising = (tt, tt); inside = (refl, tt) }, refl),

@@ -166,11 +166,10 @@ none_of_them_is_left_out h = differs h (λ w. w.count == 0) refl refl
 
 -- ---- what a call adds to what a wire stands for
 
-wire : Stands
+abbrev pub wire : Stands
 wire = record { world = world; past = []; floor = 10; refused = 0; lost = 0; ahead = [] }
 
 a_call_adds_its_step : Steps wire (record wire { past = Did look ∷ [] }) look
-unfolding wire
 a_call_adds_its_step = record {
   moves = [];
   above = tt;
@@ -191,11 +190,10 @@ turned_away : JournalStep
 turned_away = Send 1 get_piece (Refused NotFound)
 
 a_refusal_is_counted : Steps wire (record wire { past = Did turned_away ∷ [] }) turned_away → ⊥
-unfolding wire turned_away
+unfolding turned_away
 a_refusal_is_counted h = never_rose (h.refuses tt)
 
 a_loss_is_counted : Steps wire (record wire { past = Did (Send 1 get_piece Lost) ∷ [] }) (Send 1 get_piece Lost) → ⊥
-unfolding wire
 a_loss_is_counted h = never_rose (h.loses tt)
 
 no_steps : (es : List Event) → length (steps_of (map Moved es)) ≡ 0
@@ -203,7 +201,6 @@ no_steps [] = refl
 no_steps (e ∷ es) = no_steps es
 
 a_call_that_wants_memory_makes_no_step : Stays wire (record wire { past = Did look ∷ [] }) → ⊥
-unfolding wire
 a_call_that_wants_memory_makes_no_step h = differs (ap (λ hs. length (steps_of hs)) h.grown ∙ no_steps h.moves) (λ n. n == 1) refl refl
 
 a_foreign_write_stays_above_the_floor : IsAbove 10 (wrote key_a 11 5)
