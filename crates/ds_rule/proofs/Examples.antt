@@ -1,6 +1,6 @@
 -- Worked examples of the definitions, some that hold and some that must not: worlds, deliveries and events. The values at
 -- the top are those of the other examples too.
-use Rattle.std.proofs.Common.{◌≡◌, ℕ, ◌+◌, ◌==◌, Bool, true, false, List, [], ◌∷◌, length, Option, Some, None, pos, refl, sym, ap, ◌∙◌}
+use Rattle.std.proofs.Common.{◌≡◌, ℕ, ◌+◌, ◌==◌, Bool, true, false, List, [], ◌∷◌, length, Some, None, pos, refl, sym, ap, ◌∙◌}
 use Rattle.ds_base.specs.Order.{bound}
 use Rattle.ds_base.specs.Ordered.{key_eq}
 use Rattle.ds_base.specs.declared.value.Dir.TheVariants.{Forward, Reverse}
@@ -14,7 +14,6 @@ use Rattle.ds_kind.specs.declared.batch.Batch.{Batch}
 use Rattle.ds_kind.specs.declared.batch.Head.{Head}
 use Rattle.ds_kind.specs.declared.batch.Piece.{Piece}
 use Rattle.ds_kind.specs.declared.reply.Body.{Body}
-use Rattle.ds_kind.specs.declared.reply.Body.TheVariants as Body
 use Rattle.ds_kind.specs.declared.reply.Failure.TheVariants as Failure
 use Rattle.ds_kind.specs.declared.reply.Reply.{Reply}
 use Rattle.ds_kind.specs.declared.reply.Row.{Row}
@@ -26,7 +25,6 @@ use Rattle.ds_cell.specs.Content.{Content, no_content}
 use Rattle.ds_rule.specs.declared.answer.Answer.{Answer}
 use Rattle.ds_rule.specs.declared.answer.Answer.TheVariants.{Done, Failed, Refused}
 use Rattle.ds_rule.specs.declared.event.Event.{Event}
-use Rattle.ds_rule.specs.declared.event.Event.TheVariants as Event
 use Rattle.ds_rule.specs.declared.record.RecordStatus.{RecordStatus}
 use Rattle.ds_rule.specs.declared.record.RecordStatus.TheVariants as Status
 use Rattle.ds_rule.specs.declared.record.TxnRecord.{TxnRecord}

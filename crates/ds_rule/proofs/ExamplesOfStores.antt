@@ -1,14 +1,12 @@
 -- Worked examples of the definitions, some that hold and some that must not: replies gathered, the plain store, the world that
 -- stands for it, and the laws.
-use Rattle.std.proofs.Common.{◌≡◌, ℕ, ◌<◌, ◌≤◌, ◌==◌, not, Bool, true, false, cond, List, [], ◌∷◌, length, Option, Some, None, is_some, inl, inr, refl, sym, ap, ◌∙◌, subst, lit<, arith}
+use Rattle.std.proofs.Common.{◌≡◌, ℕ, ◌<◌, ◌≤◌, ◌==◌, not, Bool, true, false, cond, List, [], ◌∷◌, length, Option, Some, None, is_some, inl, inr, refl, sym, ap, ◌∙◌, lit<, arith}
 use Rattle.ds_base.specs.Ordered.{key_eq}
 use Rattle.ds_base.specs.declared.value.Dir.TheVariants.{Forward}
 use Rattle.ds_kind.specs.Request.{span_of}
 use Rattle.ds_kind.specs.declared.batch.Batch.{Batch}
 use Rattle.ds_kind.specs.declared.batch.Item.{Item}
 use Rattle.ds_kind.specs.declared.reply.Body.{Body}
-use Rattle.ds_kind.specs.declared.reply.Body.TheVariants as Body
-use Rattle.ds_kind.specs.declared.reply.Failure.TheVariants as Failure
 use Rattle.ds_kind.specs.declared.reply.Reply.{Reply}
 use Rattle.ds_kind.specs.declared.reply.Row.{Row}
 use Rattle.ds_kind.specs.declared.request.Request.{Request}
@@ -19,7 +17,6 @@ use Rattle.ds_cell.specs.Replies.{join_bodies}
 use Rattle.ds_cell.specs.Store.{Store, StoreTxn, Live, FailedSince, Unknown, Fate, Pending, Committed, Aborted, empty_store}
 use Rattle.ds_rule.specs.declared.answer.Answer.TheVariants.{Done}
 use Rattle.ds_rule.specs.declared.answer.Outcome.{Outcome}
-use Rattle.ds_rule.specs.declared.answer.Outcome.TheVariants as Outcome
 use Rattle.ds_rule.specs.declared.event.Event.TheVariants as Event
 use Rattle.ds_rule.specs.declared.journal.JournalStep.TheVariants.{Look}
 use Rattle.ds_rule.specs.declared.record.RecordStatus.{RecordStatus}
@@ -28,13 +25,12 @@ use Rattle.ds_rule.specs.declared.record.TxnRecord.{TxnRecord}
 use Rattle.ds_desc.specs.declared.meta.Looked.TheVariants as Looked
 use Rattle.ds_rule.specs.Asking.{Asking, Made, Gives, Fails, ask_all, asking}
 use Rattle.ds_rule.specs.Gathered.{Gathered, IsGathered}
-use Rattle.ds_rule.specs.Journal.{Accepted, Happening, Moved, Did}
+use Rattle.ds_rule.specs.Journal.{Accepted, Moved, Did}
 use Rattle.ds_rule.specs.Clauses.{Stands}
 use Rattle.ds_rule.specs.Law.{LeadsTo, IsGiven, IsProperRead, IsQuiet, MayAct, PlainCause}
 use Rattle.ds_rule.specs.Plain.{Answered, IsPlainOk, after_event, asker_in}
 use Rattle.ds_rule.specs.StandsFor.{Ready, IsAt, HasRecordOf, IsIntentOf, StandsFor}
-use Rattle.ds_rule.specs.World.{World, cell_of}
-use Rattle.ds_rule.proofs.Examples.{number_in, key_a, key_b, key_g, key_m, key_z, version, write, holding, low, high, world, txn_record, with_record, get, put, scan, scan_back, alone_at, batch_at, asked_at, saying, got, row, wrote, two_ranges_tile, differs, never}
+use Rattle.ds_rule.proofs.Examples.{number_in, key_a, key_b, key_g, key_m, key_z, version, write, holding, world, txn_record, get, put, scan, scan_back, alone_at, batch_at, asked_at, saying, got, row, wrote, two_ranges_tile, differs, never}
 use Rattle.ds_rule.proofs.ExamplesOfJournals.{look, get_gave, wire}
 
 -- ---- replies gathered
