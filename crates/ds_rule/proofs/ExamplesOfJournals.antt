@@ -90,7 +90,7 @@ a_move_comes_after_one_step = refl
 
 -- ---- pieces of a batch
 
-its_get_is_a_piece_of_a_batch : PieceOf (asked_at 20 (get key_a ∷ [])) None get_piece
+pub its_get_is_a_piece_of_a_batch : PieceOf (asked_at 20 (get key_a ∷ [])) None get_piece
 its_get_is_a_piece_of_a_batch = record {
   head = refl;
   some = lit< tt;

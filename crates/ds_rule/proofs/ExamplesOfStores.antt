@@ -163,12 +163,12 @@ abbrev rows_in : List Reply → ℕ
 rows_in [] = 0
 rows_in (r ∷ rs) = rows_of r.body
 
-abbrev replies_in : Made → List Reply
+abbrev pub replies_in : Made → List Reply
 replies_in (Gives cells ws rs) = rs
 replies_in (Fails f) = []
 
 -- an Ok answer shows what the batch gives that was asked
-shows : (p : Store) (b : Batch) (q : Asking) (rs : List Reply) (after : Store) → asking (asker_in p) b ≡ Some q → IsPlainOk p b (Outcome.Ok rs) rs after → replies_in (ask_all q.head q.items p.cells) ≡ rs
+pub shows : (p : Store) (b : Batch) (q : Asking) (rs : List Reply) (after : Store) → asking (asker_in p) b ≡ Some q → IsPlainOk p b (Outcome.Ok rs) rs after → replies_in (ask_all q.head q.items p.cells) ≡ rs
 shows p b q rs after asks h = ap (λ o. replies_in (asked_of o)) (sym asks ∙ h.asks) ∙ ap replies_in h.gives
   where
     asked_of : Option Asking → Made

@@ -1,3 +1,4 @@
+pub mod Examples
 pub mod FirstLine
 pub mod Judged
 pub mod Walks
