@@ -5,15 +5,11 @@ use Rattle.ds_base.specs.Order.{after}
 use Rattle.ds_base.specs.declared.value.Dir.TheVariants.{Forward}
 use Rattle.ds_kind.specs.declared.batch.Batch.{Batch}
 use Rattle.ds_kind.specs.declared.reply.Body.{Body}
-use Rattle.ds_kind.specs.declared.reply.Reply.{Reply}
 use Rattle.ds_kind.specs.declared.reply.TxnStatus.{TxnStatus}
-use Rattle.ds_kind.specs.declared.request.Request.{Request}
-use Rattle.ds_cell.specs.Store.{Store, StoreTxn, Live, Committed, Aborted, empty_store}
-use Rattle.ds_rule.specs.declared.answer.Answer.{Answer}
+use Rattle.ds_cell.specs.Store.{Store, StoreTxn, Committed, empty_store}
 use Rattle.ds_rule.specs.declared.answer.Answer.TheVariants.{Done}
 use Rattle.ds_rule.specs.declared.answer.Outcome.{Outcome}
 use Rattle.ds_rule.specs.declared.event.Block.{Block}
-use Rattle.ds_rule.specs.declared.event.Timed.{Timed}
 use Rattle.ds_rule.specs.declared.journal.Entry.{Entry}
 use Rattle.ds_rule.specs.declared.journal.JournalStep.{JournalStep}
 use Rattle.ds_rule.specs.declared.journal.JournalStep.TheVariants.{Send}
@@ -25,13 +21,13 @@ use Rattle.ds_rule.specs.Deliver.{deliver_answer}
 use Rattle.ds_rule.specs.Moves.{moved}
 use Rattle.ds_rule.specs.Plain.{IsPlainOk, after_event}
 use Rattle.ds_rule.specs.World.{World, look_world}
-use Rattle.ds_rule.proofs.Examples.{key_a, key_g, key_m, key_z, version, write, holding, with_record, get, put, scan, alone_at, piece, batch_at, asked_at, saying, got, row, number_in, wrote, differs, never}
+use Rattle.ds_rule.proofs.Examples.{key_a, key_g, key_m, key_z, version, write, holding, with_record, get, scan, alone_at, piece, batch_at, asked_at, saying, got, row, number_in, wrote, differs}
 use Rattle.ds_rule.proofs.ExamplesOfJournals.{look, get_piece, get_gave, its_get_is_a_piece_of_a_batch}
 use Rattle.ds_rule.proofs.ExamplesOfStores.{store, open_txn, store_in, replies_in, shows}
 use Rattle.ds_script.specs.declared.line.Line.{Line}
 use Rattle.ds_script.specs.declared.line.Numbered.{Numbered}
 use Rattle.ds_script.specs.Journals.{Played, JournalTurn, WorldAfter, BatchPlays, BatchGathers, LegalJournal, AllGathered, first_played, no_asks, asks_after}
-use Rattle.ds_script.specs.PlainRuns.{BatchNext, Closes, PlainTurn, PlainRun, with_txn, without_txn}
+use Rattle.ds_script.specs.PlainRuns.{BatchNext, Closes, PlainTurn, PlainRun}
 use Rattle.ds_script.specs.Runs.{Plays, TakesEntry, event_of, has_entry, line_of}
 
 -- ---- a script of three lines, and its log
