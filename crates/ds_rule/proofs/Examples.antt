@@ -107,8 +107,11 @@ piece h id rs = record { head = h; range = id; items = items_from 0 rs (numbers_
 abbrev pub batch_at : ℕ → List Request → Batch
 batch_at s rs = record { at = Some (record { 0 = s }); consistent = true; limit = None; requests = rs }
 
+abbrev pub asked_by : Head → List Request → Asking
+asked_by h rs = numbered h 0 (batch_at h.at.0 rs)
+
 abbrev pub asked_at : ℕ → List Request → Asking
-asked_at s rs = numbered (alone_at s) 0 (batch_at s rs)
+asked_at s rs = asked_by (alone_at s) rs
 
 abbrev pub saying : Body → Reply
 saying b = record { body = b; resume = None }
@@ -164,6 +167,12 @@ in_reverse_a_border_lies_in_the_range_below = refl
 
 in_reverse_the_range_below_comes_second : look_rows world key_m Reverse ≡ high.info ∷ low.info ∷ []
 in_reverse_the_range_below_comes_second = refl
+
+the_bound_lies_in_the_last_range_in_reverse : look_rows world bound Reverse ≡ high.info ∷ low.info ∷ []
+the_bound_lies_in_the_last_range_in_reverse = refl
+
+no_range_lies_below_the_least_key : look_rows world [] Reverse ≡ []
+no_range_lies_below_the_least_key = refl
 
 -- ten ranges of one node, each of one byte's keys from a on
 narrow : ℕ → Range
@@ -248,6 +257,16 @@ a_key_of_another_range_is_answered_with_that_range = refl
 in_reverse_the_range_above_comes_first : deliver_answer world 1 (record (piece (alone_at 10) 1 (scan_back key_a key_z ∷ [])) { dir = Reverse }) ≡ Refused (Mismatch (high.info ∷ low.info ∷ []))
 in_reverse_the_range_above_comes_first = refl
 
+-- the least span over both gets goes on from the first range of the ten to the last, and eight of them are named
+a_mismatch_names_eight_ranges_at_most : deliver_answer many 1 (piece (alone_at 10) 1 (get key_a ∷ get (106 ∷ []) ∷ []))
+    ≡ Refused (Mismatch ((narrow 1).info ∷ (narrow 2).info ∷ (narrow 3).info ∷ (narrow 4).info ∷ (narrow 5).info ∷ (narrow 6).info ∷ (narrow 7).info ∷ (narrow 8).info ∷ []))
+unfolding many narrow
+a_mismatch_names_eight_ranges_at_most = refl
+
+a_range_between_two_gets_is_named_too : deliver_answer many 1 (piece (alone_at 10) 1 (get key_a ∷ get (99 ∷ []) ∷ [])) ≡ Refused (Mismatch ((narrow 1).info ∷ (narrow 2).info ∷ (narrow 3).info ∷ []))
+unfolding many narrow
+a_range_between_two_gets_is_named_too = refl
+
 a_scan_up_to_the_border_is_served : deliver_answer world 1 (piece (alone_at 10) 1 (scan key_a key_g ∷ [])) ≡ Done (saying (Body.Rows (row key_a 7 ∷ [])) ∷ [])
 a_scan_up_to_the_border_is_served = refl
 
@@ -286,6 +305,10 @@ a_transactions_write_stays_an_intent = refl
 
 it_isnt_committed_by_its_piece : cell_of (deliver_world (with_record Status.Pending) 1 (piece (by_txn 1) 1 (put key_a 5 ∷ []))) key_a ≡ holding (version 4 7 ∷ version 10 5 ∷ []) → ⊥
 it_isnt_committed_by_its_piece h = differs h (λ c. length c.versions == 1) refl refl
+
+-- the rules of scripts let no such write come beside a transaction
+a_stamped_write_takes_the_place_of_an_intent : cell_of (deliver_world (deliver_world world 1 (piece (by_txn 1) 1 (put key_a 5 ∷ []))) 1 (piece (alone_at 12) 1 (put key_a 6 ∷ []))) key_a ≡ holding (version 4 7 ∷ version 12 6 ∷ [])
+a_stamped_write_takes_the_place_of_an_intent = refl
 
 -- at stamp 3 the second put is too old
 a_piece_tells_what_failed : deliver_answer world 1 (piece (alone_at 3) 1 (put key_b 1 ∷ put key_a 2 ∷ [])) ≡ Failed (Failure.TooOld 1 key_a (record { 0 = 4 }))

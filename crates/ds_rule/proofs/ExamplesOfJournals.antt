@@ -7,6 +7,7 @@ use Rattle.ds_desc.specs.Counts.{Rose}
 use Rattle.ds_desc.specs.declared.meta.Looked.TheVariants as Looked
 use Rattle.ds_desc.specs.declared.refusal.Refusal.TheVariants.{NotFound}
 use Rattle.ds_kind.specs.Request.{cut_to, span_of}
+use Rattle.ds_kind.specs.declared.batch.Head.{Head}
 use Rattle.ds_kind.specs.declared.batch.Item.{Item}
 use Rattle.ds_kind.specs.declared.batch.Piece.{Piece}
 use Rattle.ds_kind.specs.declared.reply.Body.TheVariants as Body
@@ -22,7 +23,7 @@ use Rattle.ds_rule.specs.Journal.{Moved, Did, Does, Runs, accepted, steps_of, mo
 use Rattle.ds_rule.specs.Moves.{moved, counted}
 use Rattle.ds_rule.specs.Pieces.{IsCut, IsOneOf, PieceOf}
 use Rattle.ds_rule.specs.World.{World, cell_of}
-use Rattle.ds_rule.proofs.Examples.{key_a, key_m, low, high, world, get, put, alone_at, piece, asked_at, saying, got, number_in, wrote, differs, never}
+use Rattle.ds_rule.proofs.Examples.{key_a, key_m, low, high, world, get, put, alone_at, piece, asked_by, asked_at, saying, got, number_in, wrote, differs, never}
 
 -- the lookup of a, as the world answers it
 abbrev pub look : JournalStep
@@ -90,8 +91,8 @@ a_move_comes_after_one_step = refl
 
 -- ---- pieces of a batch
 
-pub its_get_is_a_piece_of_a_batch : PieceOf (asked_at 20 (get key_a ∷ [])) None get_piece
-its_get_is_a_piece_of_a_batch = record {
+pub a_get_is_a_piece_of_its_batch : (h : Head) → PieceOf (asked_by h (get key_a ∷ [])) h.left (piece h 1 (get key_a ∷ []))
+a_get_is_a_piece_of_its_batch h = record {
   head = refl;
   some = lit< tt;
   rising = (tt, tt);
@@ -136,7 +137,7 @@ before_step_2 : List Timed
 before_step_2 = at_step 2 write_5 ∷ []
 
 a_block_plays_its_steps : BlockPlays (asked_at 20 (get key_a ∷ [])) 1 [] world (look ∷ get_gave 7 ∷ []) world
-a_block_plays_its_steps = (world, tt, (refl, refl), (world, its_get_is_a_piece_of_a_batch, (refl, refl), refl))
+a_block_plays_its_steps = (world, tt, (refl, refl), (world, a_get_is_a_piece_of_its_batch (alone_at 20), (refl, refl), refl))
 
 a_made_up_reply_doesnt_play : (v : World) → BlockPlays (asked_at 20 (get key_a ∷ [])) 1 [] world (get_gave 8 ∷ []) v → ⊥
 a_made_up_reply_doesnt_play v h = differs h.2.0 (λ a. number_in a == 8) refl refl
@@ -146,7 +147,7 @@ a_step_of_another_batch_doesnt_play v h = another_stamp_isnt_the_batchs h.1
 
 an_event_before_step_2_is_seen_by_it : BlockPlays (asked_at 20 (get key_a ∷ [])) 1 before_step_2 world (look ∷ get_gave 5 ∷ []) (moved world write_5)
 unfolding before_step_2 at_step
-an_event_before_step_2_is_seen_by_it = (world, tt, (refl, refl), (moved world write_5, its_get_is_a_piece_of_a_batch, (refl, refl), refl))
+an_event_before_step_2_is_seen_by_it = (world, tt, (refl, refl), (moved world write_5, a_get_is_a_piece_of_its_batch (alone_at 20), (refl, refl), refl))
 
 it_isnt_made_after_step_2 : (v : World) → BlockPlays (asked_at 20 (get key_a ∷ [])) 1 before_step_2 world (look ∷ get_gave 7 ∷ []) v → ⊥
 unfolding before_step_2 at_step

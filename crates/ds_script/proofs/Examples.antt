@@ -5,6 +5,7 @@ use Rattle.ds_base.specs.Order.{after}
 use Rattle.ds_base.specs.declared.value.Dir.TheVariants.{Forward}
 use Rattle.ds_kind.specs.declared.batch.Batch.{Batch}
 use Rattle.ds_kind.specs.declared.reply.Body.{Body}
+use Rattle.ds_kind.specs.declared.reply.Reply.{Reply}
 use Rattle.ds_kind.specs.declared.reply.TxnStatus.{TxnStatus}
 use Rattle.ds_cell.specs.Store.{Store, StoreTxn, Committed, empty_store}
 use Rattle.ds_rule.specs.declared.answer.Answer.TheVariants.{Done}
@@ -21,12 +22,12 @@ use Rattle.ds_rule.specs.Deliver.{deliver_answer}
 use Rattle.ds_rule.specs.Moves.{moved}
 use Rattle.ds_rule.specs.Plain.{IsPlainOk, after_event}
 use Rattle.ds_rule.specs.World.{World, look_world}
-use Rattle.ds_rule.proofs.Examples.{key_a, key_g, key_m, key_z, version, write, holding, with_record, get, scan, alone_at, piece, batch_at, asked_at, saying, got, row, number_in, wrote, differs}
-use Rattle.ds_rule.proofs.ExamplesOfJournals.{look, get_piece, get_gave, its_get_is_a_piece_of_a_batch}
-use Rattle.ds_rule.proofs.ExamplesOfStores.{store, open_txn, store_in, replies_in, shows}
+use Rattle.ds_rule.proofs.Examples.{key_a, key_g, key_m, key_z, version, write, holding, txn_record, with_record, get, scan, alone_at, by_txn, piece, batch_at, asked_by, asked_at, saying, got, row, number_in, wrote, differs}
+use Rattle.ds_rule.proofs.ExamplesOfJournals.{look, get_piece, get_gave, a_get_is_a_piece_of_its_batch}
+use Rattle.ds_rule.proofs.ExamplesOfStores.{store, open_txn, store_in, batch_of_txn, replies_in, shows}
 use Rattle.ds_script.specs.declared.line.Line.{Line}
 use Rattle.ds_script.specs.declared.line.Numbered.{Numbered}
-use Rattle.ds_script.specs.Journals.{Played, JournalTurn, WorldAfter, BatchPlays, BatchGathers, LegalJournal, AllGathered, first_played, no_asks, asks_after}
+use Rattle.ds_script.specs.Journals.{Asks, Played, JournalTurn, WorldAfter, BatchPlays, BatchGathers, LegalJournal, AllGathered, first_played, no_asks, asks_after}
 use Rattle.ds_script.specs.PlainRuns.{BatchNext, Closes, PlainTurn, PlainRun}
 use Rattle.ds_script.specs.Runs.{Plays, TakesEntry, event_of, has_entry, line_of}
 
@@ -122,7 +123,7 @@ its_steps_play : BatchPlays (played written) (batch_at 20 (get key_a ∷ [])) no
 its_steps_play = record {
   asked = asked_at 20 (get key_a ∷ []);
   asks = refl;
-  plays = (written, tt, (refl, refl), (written, its_get_is_a_piece_of_a_batch, (refl, refl), refl));
+  plays = (written, tt, (refl, refl), (written, a_get_is_a_piece_of_its_batch (alone_at 20), (refl, refl), refl));
 }
 
 a_get_after_a_write_has_a_legal_journal : LegalJournal script (entry 7 ∷ [])
@@ -140,6 +141,34 @@ an_answer_that_no_range_gives_is_not_legal h =
     let steps = third.2.0.plays in
     differs (steps.3.2.0 ∙ ap (λ w. deliver_answer w 1 get_piece) (steps.2.1 ∙ ap (λ w. look_world w key_a Forward) world)) (λ a. number_in a == 9) refl refl
 
+-- a transaction at stamp 10 reads and closes; nobody ends it before
+abbrev txn_script : List Numbered
+txn_script = on_line 1 cluster ∷ on_line 2 (Line.Begin (record { 0 = 10 }) key_a) ∷ on_line 3 (Line.Batch (batch_of_txn (get key_a ∷ [])) nothing_beside) ∷ on_line 4 Line.Close ∷ []
+
+abbrev none_seen : List Reply
+none_seen = saying (Body.Got None) ∷ []
+
+abbrev txn_entry : Entry
+txn_entry = Entry.Batch 3 (Send 1 (piece (by_txn 1) 1 (get key_a ∷ [])) (Done none_seen) ∷ []) (Outcome.Ok none_seen)
+
+abbrev txn_log : List Entry
+txn_log = txn_entry ∷ closing 4 ∷ []
+
+abbrev txn_asks : Asks
+txn_asks = record { asker = Some (open_txn.asker); begun = 1 }
+
+abbrev txn_world : RecordStatus → World
+txn_world s = record begun { records = txn_record 1 s ∷ [] }
+
+its_get_plays : BatchPlays (record { world = txn_world RecordStatus.Pending; asks = txn_asks }) (batch_of_txn (get key_a ∷ [])) nothing_beside (Send 1 (piece (by_txn 1) 1 (get key_a ∷ [])) (Done none_seen) ∷ []) (txn_world RecordStatus.Pending)
+its_get_plays = record { asked = asked_by (by_txn 1) (get key_a ∷ []); asks = refl; plays = (txn_world RecordStatus.Pending, a_get_is_a_piece_of_its_batch (by_txn 1), (refl, refl), refl) }
+
+a_transaction_that_reads_has_a_legal_journal : LegalJournal txn_script txn_log
+a_transaction_that_reads_has_a_legal_journal = (
+  record { world = txn_world RecordStatus.Aborted; asks = record { asker = None; begun = 1 } },
+  (None, txn_log, played begun, refl, (refl, refl), (None, txn_log, record { world = txn_world RecordStatus.Pending; asks = txn_asks }, refl, (refl, refl), (Some txn_entry, closing 4 ∷ [], record { world = txn_world RecordStatus.Pending; asks = txn_asks }, (refl, refl), (its_get_plays, refl), (Some (closing 4), [], record { world = txn_world RecordStatus.Aborted; asks = record { asker = None; begun = 1 } }, (refl, refl), ((refl, refl), refl), (refl, refl))))),
+)
+
 a_close_tells_how_the_record_stands : WorldAfter (played (with_record RecordStatus.Committed)) Line.Close (Some (Entry.Closed 2 TxnStatus.Committed)) (closed (with_record RecordStatus.Committed))
 a_close_tells_how_the_record_stands = (refl, refl)
 
@@ -149,6 +178,9 @@ is_committed s = false
 
 a_close_doesnt_commit_what_is_pending : (w : World) → WorldAfter (played (with_record RecordStatus.Pending)) Line.Close (Some (Entry.Closed 2 TxnStatus.Committed)) w → ⊥
 a_close_doesnt_commit_what_is_pending w h = differs h.0 is_committed refl refl
+
+a_batchs_entry_is_none_of_a_close : (w : World) → WorldAfter (played begun) Line.Close (Some (entry 7)) w → ⊥
+a_batchs_entry_is_none_of_a_close w h = h
 
 a_close_without_its_entry_is_not_legal : (w : World) → WorldAfter (played begun) Line.Close None w → ⊥
 a_close_without_its_entry_is_not_legal w h = h
@@ -226,6 +258,35 @@ it_sees_nothing_else h =
     let same : second.0 ≡ told = second.1 ∙ ap (after_event (wrote key_a 4 7)) first.1 in
     let seen : replies_in (ask_all (alone_at 20) (asked_at 20 (get key_a ∷ [])).items second.0.cells) ≡ got 9 ∷ [] = shows second.0 (batch_at 20 (get key_a ∷ [])) (asked_at 20 (get key_a ∷ [])) (got 9 ∷ []) third.2.0 refl third.2.1 in
     differs (ap (λ p. replies_in (ask_all (alone_at 20) (asked_at 20 (get key_a ∷ [])).items p.cells)) (sym same) ∙ seen) (λ rs. number_in (Done rs) == 7) refl refl
+
+-- that a failure is the store's own is said by the causes of a log, and not by its plain run
+a_plain_run_doesnt_tell_why_a_batch_failed : PlainRun script (Entry.Batch 3 [] (Outcome.NotInteger 0) ∷ [])
+a_plain_run_doesnt_tell_why_a_batch_failed = (
+  told,
+  (None, Entry.Batch 3 [] (Outcome.NotInteger 0) ∷ [], empty_store, refl, refl, (None, Entry.Batch 3 [] (Outcome.NotInteger 0) ∷ [], told, refl, refl, (Some (Entry.Batch 3 [] (Outcome.NotInteger 0)), [], told, (refl, refl), (told, refl, refl), (refl, refl)))),
+)
+
+-- the store while the transaction is open, which has asked so many batches
+abbrev opened : ℕ → Store
+opened n = record { cells = []; txn = Some (record open_txn { batches = n }); begun = 1 }
+
+its_get_is_plain : IsPlainOk (opened 0) (batch_of_txn (get key_a ∷ [])) (Outcome.Ok none_seen) none_seen (opened 1)
+its_get_is_plain = record {
+  unlimited = refl;
+  pending = refl;
+  asked = asked_by (by_txn 1) (get key_a ∷ []);
+  asks = refl;
+  cells = [];
+  writes = [];
+  gives = refl;
+  next = refl;
+}
+
+a_transaction_that_reads_has_a_plain_run : PlainRun txn_script txn_log
+a_transaction_that_reads_has_a_plain_run = (
+  record { cells = []; txn = None; begun = 1 },
+  (None, txn_log, empty_store, refl, refl, (None, txn_log, opened 0, refl, refl, (Some txn_entry, closing 4 ∷ [], opened 1, (refl, refl), (opened 1, its_get_is_plain, refl), (Some (closing 4), [], record { cells = []; txn = None; begun = 1 }, (refl, refl), (refl, refl), (refl, refl))))),
+)
 
 abbrev beside_it : Block
 beside_it = record { events = record { at = 1; event = wrote key_a 12 5 } ∷ []; picks = [] }
