@@ -3,8 +3,9 @@ pub mod Examples
 pub mod Histories
 pub mod LaterFacts
 pub mod LatestFacts
-pub mod NewestFacts
+pub mod Ranks
 pub mod ReplyFacts
 pub mod RequestLaws
 pub mod RisingFacts
+pub mod TakenFacts
 pub mod WriteFacts

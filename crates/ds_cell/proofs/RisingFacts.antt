@@ -1,9 +1,9 @@
 -- What keeps numbers rising.
 use Rattle.std.proofs.Common.{◌≡◌, ℕ, ◌+◌, ◌<◌, ◌≤◌, Bool, true, false, not, cond, List, [], ◌∷◌, refl, sym, ap, ◌∙◌, subst, Option, Some, None, arith, nat_lt, ltb-true, ltb-false, ◌==◌, ◌||◌}
 use Rattle.std.proofs.lemmas.Bool.{eqb-false}
-use Rattle.std.specs.List.{find, insert, position_or_len, prefix_len, list_any, fold}
+use Rattle.std.specs.List.{filter, find, insert, position_or_len, prefix_len, list_any, fold}
 use Rattle.ds_cell.specs.Seen.{under}
-use Rattle.ds_cell.specs.Change.{place_before, made, with_write, with_commit}
+use Rattle.ds_cell.specs.Change.{place_before, made, with_write}
 use Rattle.ds_cell.specs.Content.{AllAbove, Rises, stamp_of, seq_of}
 use Rattle.ds_cell.specs.declared.entry.Version.{Version}
 use Rattle.ds_cell.specs.declared.entry.Written.{Written}
@@ -58,7 +58,7 @@ pub rises-insert : {X : Type 0} (f : X → ℕ) (x : X) (xs : List X) → IsFree
 rises-insert f x xs free r =
     subst (λ ys. Rises f ys) (sym (insert-place (λ v. nat_lt (f x) (f v)) x xs)) (rises-insert_before f x xs free r)
 
-free_from_find : {X : Type 0} (f : X → ℕ) (n : ℕ) (xs : List X) → find (λ w. f w == n) xs ≡ None → IsFree f n xs
+pub free_from_find : {X : Type 0} (f : X → ℕ) (n : ℕ) (xs : List X) → find (λ w. f w == n) xs ≡ None → IsFree f n xs
 free_from_find f n [] h = tt
 free_from_find f n (x ∷ xs) h =
     elim (f x == n) as (λ t. cond t (Some x) (find (λ w. f w == n) xs) ≡ None → (t ≡ false) × IsFree f n xs) [
@@ -66,7 +66,7 @@ free_from_find f n (x ∷ xs) h =
       | false ↦ λ e. (refl, free_from_find f n xs e)
     ] h
 
-free_from_any : {X : Type 0} (f : X → ℕ) (n : ℕ) (xs : List X) → list_any (λ w. f w == n) xs ≡ false → IsFree f n xs
+pub free_from_any : {X : Type 0} (f : X → ℕ) (n : ℕ) (xs : List X) → list_any (λ w. f w == n) xs ≡ false → IsFree f n xs
 free_from_any f n [] h = tt
 free_from_any f n (x ∷ xs) h =
     elim (f x == n) as (λ t. (t || list_any (λ w. f w == n) xs) ≡ false → (t ≡ false) × IsFree f n xs) [
@@ -90,6 +90,19 @@ pub rises_fold : (vs : List Version) (waiting : List Version) → Rises stamp_of
 rises_fold vs [] r = r
 rises_fold vs (v ∷ waiting) r = rises_fold (made vs v) waiting (rises_made vs v r)
 
-pub rises_commit : (commit : Option Stamp) (w : Written) (vs : List Version) → Rises stamp_of vs → Rises stamp_of (with_commit commit w vs)
-rises_commit None w vs r = r
-rises_commit (Some t) w vs r = rises_made vs _ r
+all_above-filter : {X : Type 0} (f : X → ℕ) (p : X → Bool) (n : ℕ) (xs : List X) → AllAbove f n xs → AllAbove f n (filter p xs)
+all_above-filter f p n [] a = tt
+all_above-filter f p n (x ∷ xs) a =
+    elim (p x) as (λ t. AllAbove f n (cond t (x ∷ filter p xs) (filter p xs))) [
+      | true ↦ (a.0, all_above-filter f p n xs a.1)
+      | false ↦ all_above-filter f p n xs a.1
+    ]
+
+-- what is left of a list that rises
+pub rises-filter : {X : Type 0} (f : X → ℕ) (p : X → Bool) (xs : List X) → Rises f xs → Rises f (filter p xs)
+rises-filter f p [] r = tt
+rises-filter f p (x ∷ xs) r =
+    elim (p x) as (λ t. Rises f (cond t (x ∷ filter p xs) (filter p xs))) [
+      | true ↦ (all_above-filter f p (f x) xs r.0, rises-filter f p xs r.1)
+      | false ↦ rises-filter f p xs r.1
+    ]

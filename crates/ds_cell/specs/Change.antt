@@ -35,14 +35,16 @@ foreign_by (Some w) v c = record c { waiting = c.waiting ++ v ∷ [] }
 abbrev pub after_foreign : Version → Content → Content
 after_foreign v c = foreign_by (last_of c.history) v c
 
-abbrev pub with_commit : Option Stamp → Written → List Version → List Version
-with_commit (Some t) w vs = made vs (record { stamp = t; value = w.value })
-with_commit None w vs = vs
+-- the versions that an intent becomes, in order: its last write at the commit's stamp, if there is a commit, and then the
+-- writes that waited
+abbrev pub settling : Option Stamp → Written → List Version → List Version
+settling (Some t) w waiting = record { stamp = t; value = w.value } ∷ waiting
+settling None w waiting = waiting
 
 abbrev pub settled_by : Option Stamp → Option Written → Content → Content
 settled_by commit None c = c
 settled_by commit (Some w) c =
-    record c { versions = fold made (with_commit commit w c.versions) c.waiting; history = []; waiting = [] }
+    record c { versions = fold made c.versions (settling commit w c.waiting); history = []; waiting = [] }
 
 -- the cell after the transaction's intent is settled: its last write becomes a version at the commit's stamp,
 -- or is dropped where there is no commit, and then the waiting writes are made in order

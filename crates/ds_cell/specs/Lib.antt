@@ -9,3 +9,4 @@ pub mod Replies
 pub mod Requests
 pub mod Seen
 pub mod Store
+pub mod Taken

@@ -93,9 +93,10 @@ pub trait Acts: Kind {
             Verdict::Keep(bit) => Ok(bit),
             Verdict::Refuse(fault) => Err(fault),
             Verdict::Put(value, bit) => {
-                cell.write(at, value)
-                    .map_err(|_| ActFault::Memory(AllocError))?;
-                Ok(bit)
+                match cell.write(alloc, at, value) {
+                    Ok(_) => Ok(bit),
+                    Err(_) => Err(ActFault::Memory(AllocError)),
+                }
             }
         }
     }

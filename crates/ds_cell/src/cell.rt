@@ -1,12 +1,14 @@
 //! The content of one key.
-ghost use Rattle.std.specs.Prelude.{◌≡◌, ◌≤◌, ◌∷◌, [], ◌++◌, true, OnOk, IfOk, OnErr, Some, None, length, slice_get, MatchOption, is_some, if◌then◌else◌};
+ghost use Rattle.std.specs.Prelude.{◌≡◌, ◌≤◌, ◌∷◌, [], ◌++◌, OnOk, IfOk, OnErr, Some, None, length, slice_get, MatchOption, is_some, if◌then◌else◌};
 ghost use Rattle.std.specs.Option.{option_copied};
-ghost use Rattle.ds_cell.specs.Content.{no_content, IsContent, stamp_of, seq_of};
-ghost use Rattle.ds_cell.specs.Seen.{own, held, seen, newest, version_at, under, too_old, newest_from, IsLatest, IsNewestFrom};
-ghost use Rattle.ds_cell.specs.Change.{wrote, made, after_foreign, settled};
+ghost use Rattle.ds_cell.specs.Content.{no_content, IsContent, Rises, stamp_of, seq_of};
+ghost use Rattle.ds_cell.specs.Seen.{own, held, last_of, seen, newest, version_at, under, too_old, newest_from, IsLatest, IsNewestFrom};
+ghost use Rattle.ds_cell.specs.Change.{wrote, after_foreign, settled};
+ghost use Rattle.ds_cell.specs.Taken.{given_back};
 
 use crate::entry::{At, Version, Written};
 use crate::lists;
+use crate::taken::Taken;
 use ds_base::{Copies, Seq, Stamp, TxnNo, Value};
 use std::alloc::{AllocError, Global};
 use std::marker::Model;
@@ -83,7 +85,8 @@ impl Cell {
 
     // The writes that count for the request.
     fn own(&self, at: At) -> &[Written]
-        ensures { result.now ≡ own at self.now }
+        ensures own { result.now ≡ own at self.now }
+        ensures rises { Rises seq_of result.now }
     {
         if self.epoch == at.epoch {
             self.held(at.txn)
@@ -132,58 +135,63 @@ impl Cell {
         }
     }
 
+    /// Whether a transaction has writes here.
+    pub fn has_writes(&self) -> bool
+        ensures { result ≡ is_some (last_of self.now.history) }
+    {
+        lists::last_write(self.history.as_slice()).is_some()
+    }
+
     /// Writes under the request's number, unless a write of its transaction and epoch stands under it
-    /// already. Want of memory leaves the cell as it was.
-    pub fn write(&mut self, at: At, value: Option<Value>) -> Result<(), AllocError>
+    /// already, and gives what this took. Want of memory leaves the cell as it was.
+    pub fn write(
+        &mut self,
+        alloc: Global,
+        at: At,
+        value: Option<Value>,
+    ) -> Result<Taken, AllocError>
         ensures ok { OnOk result (self.new ≡ (if is_some (under at.seq.0 (own at self.old)) then self.old else wrote at value self.old)) }
+        ensures back { IfOk result (λ taken. given_back taken self.new ≡ self.old) }
         ensures err { OnErr result (self.new ≡ self.old) }
     {
         if self.written(at, at.seq).is_some() {
-            return Ok(());
+            return Ok(Taken::Nothing);
         }
-        self.write_new(at, value)
+        self.write_new(alloc, at, Written { seq: at.seq, value })
     }
 
-    fn write_new(&mut self, at: At, value: Option<Value>) -> Result<(), AllocError>
-        requires { under at.seq.0 (own at self.old) ≡ None }
-        ensures ok { OnOk result (self.new ≡ wrote at value self.old) }
+    fn write_new(&mut self, alloc: Global, at: At, written: Written) -> Result<Taken, AllocError>
+        requires free { under at.seq.0 (own at self.old) ≡ None }
+        requires number { written.seq ≡ at.seq }
+        ensures ok { OnOk result (self.new ≡ wrote at written.value self.old) }
+        ensures back { IfOk result (λ taken. given_back taken self.new ≡ self.old) }
         ensures err { OnErr result (self.new ≡ self.old) }
     {
-        let written = Written { seq: at.seq, value };
         if self.epoch == at.epoch && self.owner.0 == at.txn.0 {
-            let place = lists::place_of_write(self.history.as_slice(), at.seq);
-            self.history.insert(place, written)?;
-            return Ok(());
+            lists::add_write(&mut self.history, written)?;
+            return Ok(Taken::Write(at.seq));
         }
-        self.history.reserve(1)?;
-        self.history.clear();
-        self.history.push(written)?;
+        let mut history = Vec::new(alloc);
+        history.push(written)?;
+        let taken = self.take_writes(alloc);
         self.owner = at.txn;
         self.epoch = at.epoch;
-        Ok(())
+        self.history = history;
+        Ok(Taken::Writes(taken))
     }
 
-    // Whether a version at the stamp would come last.
-    fn is_newest(&self, stamp: Stamp) -> bool
-        ensures { result ≡ true → (v : Version) → v.stamp ≡ stamp → made (self.now).versions v ≡ (self.now).versions ++ v ∷ [] }
+    // Moves the writes into a cell of their own.
+    fn take_writes(&mut self, alloc: Global) -> Cell
+        ensures taken { result ≡ record (self.old) { versions = []; waiting = [] } }
+        ensures left { self.new ≡ record (self.old) { history = [] } }
     {
-        match lists::last_version(self.versions.as_slice()) {
-            Some(last) => last.stamp.0 < stamp.0,
-            None => true,
+        Cell {
+            versions: Vec::new(alloc),
+            owner: self.owner,
+            epoch: self.epoch,
+            history: std::mem::replace(&mut self.history, Vec::new(alloc)),
+            waiting: Vec::new(alloc),
         }
-    }
-
-    // Makes a version, unless one stands at its stamp. One that comes last is made without a look at
-    // the others.
-    fn make(&mut self, version: Version) -> Result<(), AllocError>
-        ensures ok { OnOk result (self.new ≡ record (self.old) { versions = made (self.old).versions version }) }
-        ensures err { OnErr result (self.new ≡ self.old) }
-    {
-        if self.is_newest(version.stamp) {
-            self.versions.push(version)?;
-            return Ok(());
-        }
-        lists::make(&mut self.versions, version)
     }
 
     /// A write of another client: a version at its stamp, unless one stands there. Where an intent
@@ -198,7 +206,7 @@ impl Cell {
         ensures err { OnErr result (self.new ≡ self.old) }
     {
         match lists::last_write(self.history.as_slice()) {
-            None => self.make(Version { stamp, value })?,
+            None => lists::make(&mut self.versions, Version { stamp, value })?,
             Some(_) => self.waiting.push(Version { stamp, value })?,
         }
         Ok(())
@@ -216,20 +224,65 @@ impl Cell {
         ensures ok { OnOk result (self.new ≡ settled txn.0 commit self.old) }
         ensures err { OnErr result (self.new ≡ self.old) }
     {
-        let versions = match lists::last_write(self.held(txn)) {
-            Some(last) => lists::settled(
-                alloc,
-                self.versions.as_slice(),
-                commit,
-                last,
-                self.waiting.as_slice(),
-            )?,
-            None => return Ok(()),
+        match self.settle_kept(alloc, txn, commit) {
+            Ok(_) => Ok(()),
+            Err(err) => Err(err),
+        }
+    }
+
+    /// The same, and gives what this took.
+    pub fn settle_kept(
+        &mut self,
+        alloc: Global,
+        txn: TxnNo,
+        commit: Option<Stamp>,
+    ) -> Result<Taken, AllocError>
+        ensures ok { OnOk result (self.new ≡ settled txn.0 commit self.old) }
+        ensures back { IfOk result (λ taken. given_back taken self.new ≡ self.old) }
+        ensures err { OnErr result (self.new ≡ self.old) }
+    {
+        let new = match lists::last_write(self.held(txn)) {
+            Some(last) => lists::settling(alloc, commit, last, self.waiting.as_slice())?,
+            None => return Ok(Taken::Nothing),
         };
-        self.versions = versions;
-        self.history.clear();
-        self.waiting.clear();
-        Ok(())
+        let stamps = lists::make_each(alloc, &mut self.versions, new)?;
+        Ok(Taken::Intent(self.take_intent(alloc), stamps))
+    }
+
+    // Moves the intent, with the writes that wait for it, into a cell of its own.
+    fn take_intent(&mut self, alloc: Global) -> Cell
+        ensures taken { result ≡ record (self.old) { versions = [] } }
+        ensures left { self.new ≡ record (self.old) { history = []; waiting = [] } }
+    {
+        Cell {
+            versions: Vec::new(alloc),
+            owner: self.owner,
+            epoch: self.epoch,
+            history: std::mem::replace(&mut self.history, Vec::new(alloc)),
+            waiting: std::mem::replace(&mut self.waiting, Vec::new(alloc)),
+        }
+    }
+
+    /// Gives back what a change took. It takes no memory.
+    pub fn give_back(&mut self, taken: Taken)
+        ensures { self.new ≡ given_back taken self.old }
+    {
+        match taken {
+            Taken::Nothing => {}
+            Taken::Write(seq) => lists::remove_write(&mut self.history, seq),
+            Taken::Writes(cell) => {
+                self.owner = cell.owner;
+                self.epoch = cell.epoch;
+                self.history = cell.history;
+            }
+            Taken::Intent(cell, stamps) => {
+                lists::remove_versions(&mut self.versions, &stamps);
+                self.owner = cell.owner;
+                self.epoch = cell.epoch;
+                self.history = cell.history;
+                self.waiting = cell.waiting;
+            }
+        }
     }
 }
 

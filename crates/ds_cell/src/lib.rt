@@ -7,8 +7,10 @@ pub mod cell;
 mod control;
 pub mod entry;
 mod lists;
+mod ranked;
 mod reads;
 pub mod request;
+pub mod taken;
 #[cfg(test)]
 mod tests;
 pub mod verdict;

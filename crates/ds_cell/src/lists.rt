@@ -1,27 +1,32 @@
 //! Versions by rising stamp, and writes by rising number.
-ghost use Rattle.std.specs.Prelude.{◌≡◌, ◌≤◌, ◌==◌, OnOk, IfOk, OnErr, nat_lt, length, position, fold, true};
+ghost use Rattle.std.specs.Prelude.{◌≡◌, ◌≤◌, ◌==◌, nat_lt, length, OnOk, IfOk, OnErr, None, fold, true, is_some, not};
 ghost use Rattle.std.specs.Option.{option_copied};
 ghost use Rattle.std.specs.List.{list_any};
-ghost use Rattle.ds_cell.specs.Content.{Rises, stamp_of};
+ghost use Rattle.ds_cell.specs.Content.{Rises, stamp_of, seq_of};
 ghost use Rattle.ds_cell.specs.Seen.{newest, version_at, under, last_of, raised, stamp_from};
-ghost use Rattle.ds_cell.specs.Change.{place_before, made, with_commit};
+ghost use Rattle.ds_cell.specs.Change.{made, place_before, settling, with_write};
+ghost use Rattle.ds_cell.specs.Taken.{is_among, without_stamps, without_write};
 
 use crate::entry::{Version, Written};
+use crate::ranked;
+use crate::taken::Stamps;
 use ds_base::{Copies, Seq, Stamp};
 use std::alloc::{AllocError, Global};
 
 // The write with the greatest number not above `seq`.
 pub(crate) fn newest(history: &[Written], seq: Seq) -> Option<&Written>
+    requires { Rises seq_of history.now }
     ensures { option_copied result ≡ newest seq.0 history.now }
 {
-    history.iter().rev().find(|w| w.seq.0 <= seq.0)
+    ranked::latest(history, u64::from(seq.0))
 }
 
 // The write under the number.
 pub(crate) fn under(history: &[Written], seq: Seq) -> Option<&Written>
+    requires { Rises seq_of history.now }
     ensures { option_copied result ≡ under seq.0 history.now }
 {
-    history.iter().find(|w| w.seq.0 == seq.0)
+    ranked::under(history, u64::from(seq.0))
 }
 
 pub(crate) fn last_write(history: &[Written]) -> Option<&Written>
@@ -32,9 +37,10 @@ pub(crate) fn last_write(history: &[Written]) -> Option<&Written>
 
 // The version with the greatest stamp not above `stamp`.
 pub(crate) fn version_at(versions: &[Version], stamp: Stamp) -> Option<&Version>
+    requires { Rises stamp_of versions.now }
     ensures { option_copied result ≡ version_at stamp.0 versions.now }
 {
-    versions.iter().rev().find(|v| v.stamp.0 <= stamp.0)
+    ranked::latest(versions, stamp.0)
 }
 
 pub(crate) fn last_version(versions: &[Version]) -> Option<&Version>
@@ -84,88 +90,147 @@ pub(crate) fn newest_from(from: Stamp, versions: &[Version], waiting: &[Version]
         .fold(start, |greatest, version| raised(from, greatest, version))
 }
 
-fn first_after(history: &[Written], seq: Seq) -> Option<usize>
-    ensures { result ≡ position (λ w. nat_lt seq.0 w.seq.0) history.now }
-{
-    history.iter().position(|w| seq.0 < w.seq.0)
-}
-
-// Where a write under the number goes.
-#[tactic(auto, using(crate::proofs::Histories::place_in_range))]
-pub(crate) fn place_of_write(history: &[Written], seq: Seq) -> usize
-    ensures place { result ≡ place_before (λ w. nat_lt seq.0 w.seq.0) history.now }
-    ensures within { result ≤ length history.now }
-{
-    first_after(history, seq).unwrap_or(history.len())
-}
-
-fn first_above(versions: &[Version], stamp: Stamp) -> Option<usize>
-    ensures { result ≡ position (λ v. nat_lt stamp.0 v.stamp.0) versions.now }
-{
-    versions.iter().position(|v| stamp.0 < v.stamp.0)
-}
-
-#[tactic(auto, using(crate::proofs::Histories::place_in_range))]
-fn place_of_version(versions: &[Version], stamp: Stamp) -> usize
-    ensures place { result ≡ place_before (λ v. nat_lt stamp.0 v.stamp.0) versions.now }
-    ensures within { result ≤ length versions.now }
-{
-    first_above(versions, stamp).unwrap_or(versions.len())
-}
-
+// Whether a version stands at the stamp.
 fn has_stamp(versions: &[Version], stamp: Stamp) -> bool
+    requires { Rises stamp_of versions.now }
     ensures { result ≡ list_any (λ v. v.stamp.0 == stamp.0) versions.now }
 {
-    versions.iter().any(|v| v.stamp.0 == stamp.0)
+    ranked::under(versions, stamp.0).is_some()
 }
 
 // Makes a version, unless one stands at its stamp.
 pub(crate) fn make(versions: &mut Vec<Version>, version: Version) -> Result<(), AllocError>
+    requires { Rises stamp_of versions.old.items }
     ensures ok { OnOk result (versions.new.items ≡ made versions.old.items version) }
     ensures err { OnErr result (versions.new.items ≡ versions.old.items) }
-    ensures rises { Rises stamp_of versions.old.items → Rises stamp_of versions.new.items }
+    ensures rises { Rises stamp_of versions.new.items }
 {
     if has_stamp(versions.as_slice(), version.stamp) {
         return Ok(());
     }
-    let place = place_of_version(versions.as_slice(), version.stamp);
+    let place = ranked::count_up_to(versions.as_slice(), version.stamp.0);
     versions.insert(place, version)?;
     Ok(())
 }
 
-// Makes the waiting writes in order.
-#[tactic(auto, using(std::proofs::lemmas::List::Sums::fold_more))]
+// The same, with a note of its stamp where it is made.
+fn make_noted(
+    alloc: Global,
+    versions: &mut Vec<Version>,
+    version: Version,
+    stamps: &mut Stamps,
+) -> Result<(), AllocError>
+    requires { Rises stamp_of versions.old.items }
+    ensures ok { OnOk result (versions.new.items ≡ made versions.old.items version) }
+    ensures back { without_stamps stamps.new versions.new.items ≡ without_stamps stamps.old versions.old.items }
+    ensures rises { Rises stamp_of versions.new.items }
+{
+    if has_stamp(versions.as_slice(), version.stamp) {
+        return Ok(());
+    }
+    stamps.push(alloc, version.stamp)?;
+    make(versions, version)
+}
+
+// Makes the versions in order, with a note of the stamps of those that are made.
 fn make_all(
     alloc: Global,
     versions: &mut Vec<Version>,
-    waiting: &[Version],
+    new: Vec<Version>,
+    stamps: &mut Stamps,
 ) -> Result<(), AllocError>
-    ensures made { OnOk result (versions.new.items ≡ fold made versions.old.items waiting.now) }
-    ensures rises { Rises stamp_of versions.old.items → Rises stamp_of versions.new.items }
+    requires { Rises stamp_of versions.old.items }
+    ensures ok { OnOk result (versions.new.items ≡ fold made versions.old.items new.items) }
+    ensures back { without_stamps stamps.new versions.new.items ≡ without_stamps stamps.old versions.old.items }
+    ensures rises { Rises stamp_of versions.new.items }
 {
-    for version in waiting {
-        make(versions, version.copy(alloc)?)?;
+    'new: for version in new {
+        make_noted(alloc, versions, version, stamps)?;
     }
     Ok(())
 }
 
-// The versions after the last write of an intent is settled and the waiting writes are made.
-pub(crate) fn settled(
+// Makes the versions in order, and gives the stamps of those that were made. Want of memory leaves
+// the versions as they were.
+pub(crate) fn make_each(
     alloc: Global,
-    versions: &[Version],
+    versions: &mut Vec<Version>,
+    new: Vec<Version>,
+) -> Result<Stamps, AllocError>
+    requires { Rises stamp_of versions.old.items }
+    ensures ok { OnOk result (versions.new.items ≡ fold made versions.old.items new.items) }
+    ensures back { IfOk result (λ stamps. without_stamps stamps versions.new.items ≡ versions.old.items) }
+    ensures err { OnErr result (versions.new.items ≡ versions.old.items) }
+    ensures rises { Rises stamp_of versions.new.items }
+{
+    let mut stamps = Stamps::new(alloc);
+    match make_all(alloc, versions, new, &mut stamps) {
+        Ok(()) => Ok(stamps),
+        Err(err) => {
+            remove_versions(versions, &stamps);
+            Err(err)
+        }
+    }
+}
+
+fn is_among(stamps: &Stamps, version: &Version) -> bool
+    ensures { result ≡ is_among stamps.now version.now }
+{
+    stamps.as_slice().iter().any(|s| s.0 == version.stamp.0)
+}
+
+// Removes the versions at the stamps. It takes no memory.
+pub(crate) fn remove_versions(versions: &mut Vec<Version>, stamps: &Stamps)
+    ensures without { versions.new.items ≡ without_stamps stamps.now versions.old.items }
+    ensures rises { Rises stamp_of versions.old.items → Rises stamp_of versions.new.items }
+{
+    versions.retain(|v| !is_among(stamps, v));
+}
+
+fn place_of_write(history: &[Written], seq: Seq) -> usize
+    requires { Rises seq_of history.now }
+    ensures place { result ≡ place_before (λ w. nat_lt seq.0 w.seq.0) history.now }
+    ensures within { result ≤ length history.now }
+{
+    ranked::count_up_to(history, u64::from(seq.0))
+}
+
+// Adds a write under a number that is free. Want of memory leaves the writes as they were.
+pub(crate) fn add_write(history: &mut Vec<Written>, written: Written) -> Result<(), AllocError>
+    requires rises { Rises seq_of history.old.items }
+    requires free { under written.seq.0 history.old.items ≡ None }
+    ensures ok { OnOk result (history.new.items ≡ with_write written history.old.items) }
+    ensures back { OnOk result (without_write written.seq.0 history.new.items ≡ history.old.items) }
+    ensures err { OnErr result (history.new.items ≡ history.old.items) }
+    ensures rises { Rises seq_of history.new.items }
+{
+    let place = place_of_write(history.as_slice(), written.seq);
+    history.insert(place, written)?;
+    Ok(())
+}
+
+// Removes the write under the number. It takes no memory.
+pub(crate) fn remove_write(history: &mut Vec<Written>, seq: Seq)
+    ensures without { history.new.items ≡ without_write seq.0 history.old.items }
+    ensures rises { Rises seq_of history.old.items → Rises seq_of history.new.items }
+{
+    history.retain(|w| w.seq.0 != seq.0);
+}
+
+// The versions that an intent with this last write becomes.
+pub(crate) fn settling(
+    alloc: Global,
     commit: Option<Stamp>,
     last: &Written,
     waiting: &[Version],
 ) -> Result<Vec<Version>, AllocError>
-    ensures settled { IfOk result (λ vs. vs.items ≡ fold made (with_commit commit last.now versions.now) waiting.now) }
-    ensures rises { Rises stamp_of versions.now → IfOk result (λ vs. Rises stamp_of vs.items) }
+    ensures { IfOk result (λ vs. vs.items ≡ settling commit last.now waiting.now) }
 {
-    let mut versions = copy_versions(alloc, versions)?;
+    let mut versions = copy_versions(alloc, waiting)?;
     if let Some(stamp) = commit {
         let value = last.value.copy(alloc)?;
-        make(&mut versions, Version { stamp, value })?;
+        versions.insert(0, Version { stamp, value })?;
     }
-    make_all(alloc, &mut versions, waiting)?;
     Ok(versions)
 }
 

@@ -4,6 +4,7 @@ use crate::body::{Bits, body_of};
 use crate::cell::Cell;
 use crate::entry::At;
 use crate::request::{act_request, decide_request, laws, request_laws, unnoticed};
+use crate::taken::Taken;
 use crate::verdict::{ActFault, Bit, Verdict};
 use ds_base::{Copies, Key, Seq, Stamp, Text, TxnNo, Value};
 use ds_kind::kinds::{
@@ -246,7 +247,48 @@ fn a_put_is_decided_before_it_is_written(rt: HostRuntime) -> Result<(), Fail> {
     });
     let verdict = decide_request(alloc, &cell, at(1), &request)?;
     assert!(rt; matches!(verdict, Verdict::Put(Some(Value::Int(5)), Bit::Nothing)));
-    cell.write(at(1), Some(Value::Int(5)))?;
+    let taken = cell.write(alloc, at(1), Some(Value::Int(5)))?;
+    assert!(rt; matches!(taken, Taken::Writes(_)));
     assert!(rt; sees(&cell, at(1), 5));
+    Ok(())
+}
+
+#[test]
+fn a_write_is_given_back(rt: HostRuntime) -> Result<(), Fail> {
+    let alloc = rt.alloc();
+    let mut cell = Cell::new(alloc);
+    assert!(rt; put(alloc, &mut cell, at(1), 5).is_ok());
+    let taken = cell.write(alloc, at(2), Some(Value::Int(6)))?;
+    assert!(rt; sees(&cell, at(2), 6));
+    cell.give_back(taken);
+    assert!(rt; sees(&cell, at(2), 5) && cell.has_writes());
+    Ok(())
+}
+
+#[test]
+fn replaced_writes_are_given_back(rt: HostRuntime) -> Result<(), Fail> {
+    let alloc = rt.alloc();
+    let mut cell = Cell::new(alloc);
+    assert!(rt; put(alloc, &mut cell, at(1), 5).is_ok());
+    let other = At { epoch: 1, ..at(1) };
+    let taken = cell.write(alloc, other, Some(Value::Int(6)))?;
+    assert!(rt; sees(&cell, other, 6) && cell.seen(at(1)).is_none());
+    cell.give_back(taken);
+    assert!(rt; sees(&cell, at(1), 5));
+    Ok(())
+}
+
+#[test]
+fn a_settled_intent_is_given_back(rt: HostRuntime) -> Result<(), Fail> {
+    let alloc = rt.alloc();
+    let mut cell = holding(alloc, Value::Int(1))?;
+    assert!(rt; put(alloc, &mut cell, at(1), 5).is_ok());
+    cell.foreign(alloc, Stamp(11), Some(Value::Int(7)))?;
+    let taken = cell.settle_kept(alloc, TxnNo(1), Some(Stamp(10)))?;
+    assert!(rt; has_version(&cell, 2, 11, 7) && !cell.has_writes());
+    cell.give_back(taken);
+    assert!(rt; cell.version(1).is_none() && sees(&cell, at(1), 5));
+    cell.settle(alloc, TxnNo(1), None)?;
+    assert!(rt; has_version(&cell, 0, 1, 1) && has_version(&cell, 1, 11, 7));
     Ok(())
 }
