@@ -21,4 +21,5 @@ pub use body::{Bits, body_of};
 pub use cell::Cell;
 pub use entry::{At, Version, Written};
 pub use request::{act_request, decide_request};
+pub use taken::{Stamps, Taken};
 pub use verdict::{ActFault, Bit, Verdict};

@@ -3,4 +3,4 @@ pub mod Freedom
 pub mod Held
 pub mod Maps
 pub mod Piecing
-pub mod Settling
+pub mod Covering

@@ -1,5 +1,5 @@
 -- Maps of keys, changed and put back.
-use Rattle.std.proofs.Common.{◌≡◌, ℕ, true, false, cond, List, [], ◌∷◌, ◌++◌, map, Option, Some, None, refl, sym, ap, ◌∙◌, subst, Result, Ok, Err, OnOk, OnErr, append_assoc}
+use Rattle.std.proofs.Common.{◌≡◌, ℕ, true, false, cond, List, [], ◌∷◌, ◌++◌, ◌+◌, ◌<◌, length, take, get_or, map, Option, Some, None, refl, sym, ap, ◌∙◌, subst, Result, Ok, Err, OnOk, OnErr, append_assoc}
 use Rattle.std.specs.declared.alloc.AllocError.{AllocError}
 use Rattle.std.specs.List.{AllByRecursion}
 use Rattle.std.specs.List.Sorted.{IsStrictlySortedBy}
@@ -10,6 +10,7 @@ use Rattle.std.specs.declared.cmp.Ordering.{Ordering}
 use Rattle.std.specs.declared.cmp.Ordering.TheVariants.{Less, Equal, Greater}
 use Rattle.std.proofs.lemmas.Cmp.{nat_list_cmp_total, tied_itself}
 use Rattle.std.proofs.lemmas.Map.Keys.{sorted_head, sorted_tail}
+use Rattle.std.proofs.lemmas.List.{take_more}
 use Rattle.std.proofs.lemmas.Map.Steps.{set_value_same}
 use Rattle.ds_base.specs.Order.{key_cmp, key_lt}
 use Rattle.ds_base.specs.Ordered.{key_eq, AllOver, Ascends, at_key}
@@ -17,6 +18,8 @@ use Rattle.ds_base.proofs.KeyOrder.{key_lt-trans}
 use Rattle.ds_cell.specs.Content.{Content, no_content}
 use Rattle.ds_cell.specs.Ask.{Cells, key_of, content_of, content_at}
 use Rattle.ds_cell.specs.Store.{put_cell}
+use Rattle.ds_cell.specs.Taken.{given_back}
+use Rattle.ds_cell.specs.declared.taken.Taken.{Taken}
 use Rattle.ds_base.specs.declared.value.Stamp.{Stamp}
 use Rattle.ds_base.specs.declared.value.Value.{Value}
 use Rattle.ds_cell.specs.declared.entry.At.{At}
@@ -35,7 +38,7 @@ eq_turned Less = refl
 eq_turned Equal = refl
 eq_turned Greater = refl
 
-key_eq_turned : (k q : List ℕ) → is_eq (key_cmp k q) ≡ key_eq q k
+pub key_eq_turned : (k q : List ℕ) → is_eq (key_cmp k q) ≡ key_eq q k
 key_eq_turned k q = ap is_eq (nat_list_cmp_total.antisymm k q) ∙ eq_turned (key_cmp q k)
 
 -- what a map has at a key is what stands there
@@ -70,17 +73,17 @@ less_not Equal h = sym h
 less_not Greater h = refl
 
 -- nothing is found below all keys
-missing : (k : List ℕ) (es : Cells) → AllOver key_of k es → lookup (is_at (key_cmp k)) es ≡ None
+pub missing : (k : List ℕ) (es : Cells) → AllOver key_of k es → lookup (is_at (key_cmp k)) es ≡ None
 missing k [] all = refl
 missing k (p ∷ ps) all = ap (λ t. cond t (Some p.1) (lookup (is_at (key_cmp k)) ps)) (less_not (key_cmp k p.0) all.0) ∙ missing k ps all.1
 
-over_less : (k q : List ℕ) (es : Cells) → key_lt k q ≡ true → AllOver key_of q es → AllOver key_of k es
+pub over_less : (k q : List ℕ) (es : Cells) → key_lt k q ≡ true → AllOver key_of q es → AllOver key_of k es
 over_less k q [] low all = tt
 over_less k q (p ∷ ps) low all = (key_lt-trans k q p.0 low all.0, over_less k q ps low all.1)
 
 -- what is put in
 
-none_some : {X : Type 0} {G : Type 0} (x : X) → None ≡ Some x → G
+pub none_some : {X : Type 0} {G : Type 0} (x : X) → None ≡ Some x → G
 none_some x h = cc
 
 some_none : {X : Type 0} {G : Type 0} (x : X) → Some x ≡ None → G
@@ -118,45 +121,40 @@ back_begun k d (p ∷ ps) h =
           ∙ ap (λ qs. p ∷ qs) (back_begun k d ps g)
     ] refl h
 
-some_same : {X : Type 0} (x y : X) → Some x ≡ Some y → x ≡ y
+pub some_same : {X : Type 0} (x y : X) → Some x ≡ Some y → x ≡ y
 some_same x y h = cc
 
-back_there : (k : List ℕ) (c d : Content) (es : Cells) → Ascends key_of es → lookup (is_at (key_cmp k)) es ≡ Some c → set_value (is_at (key_cmp k)) (insert_entry key_cmp es k d) c ≡ es
-back_there k c d [] asc h = none_some c h
-back_there k c d (p ∷ ps) asc h =
-    elim (key_cmp k p.0) as (λ o. key_cmp k p.0 ≡ o → cond (is_eq o) (Some p.1) (lookup (is_at (key_cmp k)) ps) ≡ Some c → set_value (is_at (key_cmp k)) (match_ordering o ((k, d) ∷ p ∷ ps) ((p.0, d) ∷ ps) (p ∷ insert_entry key_cmp ps k d)) c ≡ p ∷ ps) [
-      | Less ↦ λ e g. none_some c (sym (missing k ps (over_less k p.0 ps (ap is_lt e) asc.0)) ∙ g)
-      | Equal ↦ λ e g.
-          ap (λ o. cond (is_eq o) ((p.0, c) ∷ ps) ((p.0, d) ∷ set_value (is_at (key_cmp k)) ps c)) e
-          ∙ ap (λ x. (p.0, x) ∷ ps) (sym (some_same p.1 c g))
-      | Greater ↦ λ e g.
-          ap (λ o. cond (is_eq o) ((p.0, c) ∷ insert_entry key_cmp ps k d) (p ∷ set_value (is_at (key_cmp k)) (insert_entry key_cmp ps k d) c)) e
-          ∙ ap (λ qs. p ∷ qs) (back_there k c d ps asc.1 g)
+-- a cell that was begun goes
+pub begun_back : (k : List ℕ) (d : Content) (es after : Cells) → lookup (is_at (key_cmp k)) es ≡ None → after ≡ insert_entry key_cmp es k d → put_back k None after ≡ es
+begun_back k d es after none now = ap (remove_entry (is_at (key_cmp k))) now ∙ back_begun k d es none
+
+-- what is set where a key stands is found there
+set_here : (k : List ℕ) (c d : Content) (es : Cells) → lookup (is_at (key_cmp k)) es ≡ Some c → lookup (is_at (key_cmp k)) (set_value (is_at (key_cmp k)) es d) ≡ Some d
+set_here k c d [] h = none_some c h
+set_here k c d (p ∷ ps) h =
+    elim (is_eq (key_cmp k p.0)) as (λ t. is_eq (key_cmp k p.0) ≡ t → cond t (Some p.1) (lookup (is_at (key_cmp k)) ps) ≡ Some c → lookup (is_at (key_cmp k)) (cond t ((p.0, d) ∷ ps) (p ∷ set_value (is_at (key_cmp k)) ps d)) ≡ Some d) [
+      | true ↦ λ e g. ap (λ t. cond t (Some d) (lookup (is_at (key_cmp k)) ps)) e
+      | false ↦ λ e g. ap (λ t. cond t (Some p.1) (lookup (is_at (key_cmp k)) (set_value (is_at (key_cmp k)) ps d))) e ∙ set_here k c d ps g
     ] refl h
 
-back_by : (k : List ℕ) (d : Content) (es : Cells) (o : Option Content) → Ascends key_of es → lookup (is_at (key_cmp k)) es ≡ o → put_back k o (insert_entry key_cmp es k d) ≡ es
-back_by k d es None asc h = back_begun k d es h
-back_by k d es (Some c) asc h = back_there k c d es asc h
+set_twice : (k : List ℕ) (c d : Content) (es : Cells) → set_value (is_at (key_cmp k)) (set_value (is_at (key_cmp k)) es d) c ≡ set_value (is_at (key_cmp k)) es c
+set_twice k c d [] = refl
+set_twice k c d (p ∷ ps) =
+    elim (is_eq (key_cmp k p.0)) as (λ t. is_eq (key_cmp k p.0) ≡ t → set_value (is_at (key_cmp k)) (cond t ((p.0, d) ∷ ps) (p ∷ set_value (is_at (key_cmp k)) ps d)) c ≡ cond t ((p.0, c) ∷ ps) (p ∷ set_value (is_at (key_cmp k)) ps c)) [
+      | true ↦ λ e. ap (λ t. cond t ((p.0, c) ∷ ps) ((p.0, d) ∷ set_value (is_at (key_cmp k)) ps c)) e
+      | false ↦ λ e.
+          ap (λ t. cond t ((p.0, c) ∷ set_value (is_at (key_cmp k)) ps d) (p ∷ set_value (is_at (key_cmp k)) (set_value (is_at (key_cmp k)) ps d) c)) e
+          ∙ ap (λ qs. p ∷ qs) (set_twice k c d ps)
+    ] refl
 
--- what was kept of a key, put back after its cell was changed
-pub back_changed : (k : List ℕ) (f : Content → Content) (es : Cells) → Ascends key_of es → put_back k (lookup (is_at (key_cmp k)) es) (put_cell k f es) ≡ es
-back_changed k f es asc = back_by k (f (content_at k es)) es (lookup (is_at (key_cmp k)) es) asc refl
-
-removed_none : (k : List ℕ) (es : Cells) → lookup (is_at (key_cmp k)) es ≡ None → remove_entry (is_at (key_cmp k)) es ≡ es
-removed_none k [] h = refl
-removed_none k (p ∷ ps) h =
-    elim (is_eq (key_cmp k p.0)) as (λ t. cond t (Some p.1) (lookup (is_at (key_cmp k)) ps) ≡ None → cond t ps (p ∷ remove_entry (is_at (key_cmp k)) ps) ≡ p ∷ ps) [
-      | true ↦ λ g. some_none p.1 g
-      | false ↦ λ g. ap (λ qs. p ∷ qs) (removed_none k ps g)
-    ] h
-
-back_same_by : (k : List ℕ) (es : Cells) (o : Option Content) → lookup (is_at (key_cmp k)) es ≡ o → put_back k o es ≡ es
-back_same_by k es None h = removed_none k es h
-back_same_by k es (Some c) h = set_value_same (is_at (key_cmp k)) es c h
-
--- and where it wasn't changed
-pub back_same : (k : List ℕ) (es : Cells) → put_back k (lookup (is_at (key_cmp k)) es) es ≡ es
-back_same k es = back_same_by k es (lookup (is_at (key_cmp k)) es) refl
+-- what a change took where the key stands, given back
+pub there_back : (k : List ℕ) (c d : Content) (t : Taken) (es after : Cells) → lookup (is_at (key_cmp k)) es ≡ Some c → given_back t d ≡ c → after ≡ set_value (is_at (key_cmp k)) es d → put_back k (Some t) after ≡ es
+there_back k c d t es after there given now =
+    let here : content_at k after ≡ d = ap (content_at k) now ∙ sym (content_some k (set_value (is_at (key_cmp k)) es d) d (set_here k c d es there)) in
+    ap (λ z. set_value (is_at (key_cmp k)) after (given_back t z)) here
+    ∙ ap (λ z. set_value (is_at (key_cmp k)) after z) given
+    ∙ ap (λ z. set_value (is_at (key_cmp k)) z c) now
+    ∙ set_twice k c d es ∙ set_value_same (is_at (key_cmp k)) es c there
 
 restored-last : (us : List Kept) (u : Kept) (es : Cells) → restored (us ++ u ∷ []) es ≡ restored us (put_back u.0 u.1 es)
 restored-last [] u es = refl
@@ -166,15 +164,9 @@ restored-last (v ∷ us) u es = ap (put_back v.0 v.1) (restored-last us u es)
 pub back_last : (us vs : List Kept) (u : Kept) (es : Cells) → vs ≡ us ++ u ∷ [] → restored vs es ≡ restored us (put_back u.0 u.1 es)
 back_last us vs u es is = ap (λ zs. restored zs es) is ∙ restored-last us u es
 
-pub kept_changed : (us vs : List Kept) (k : List ℕ) (f : Content → Content) (old new : Cells) → vs ≡ us ++ (k, lookup (is_at (key_cmp k)) old) ∷ [] → Ascends key_of old → new ≡ put_cell k f old → restored vs new ≡ restored us old
-kept_changed us vs k f old new more asc now =
-    back_last us vs (k, lookup (is_at (key_cmp k)) old) new more
-    ∙ ap (λ es. restored us (put_back k (lookup (is_at (key_cmp k)) old) es)) now ∙ ap (restored us) (back_changed k f old asc)
-
-pub kept_same : (us vs : List Kept) (k : List ℕ) (old new : Cells) → vs ≡ us ++ (k, lookup (is_at (key_cmp k)) old) ∷ [] → new ≡ old → restored vs new ≡ restored us old
-kept_same us vs k old new more now =
-    back_last us vs (k, lookup (is_at (key_cmp k)) old) new more
-    ∙ ap (λ es. restored us (put_back k (lookup (is_at (key_cmp k)) old) es)) now ∙ ap (restored us) (back_same k old)
+-- one more change, which can be taken back
+pub kept_more : (us vs : List Kept) (u : Kept) (old new : Cells) → vs ≡ us ++ u ∷ [] → put_back u.0 u.1 new ≡ old → restored vs new ≡ restored us old
+kept_more us vs u old new more back = back_last us vs u new more ∙ ap (restored us) back
 
 map_last : {X Y : Type 0} (f : X → Y) (xs : List X) (x : X) → map f (xs ++ x ∷ []) ≡ map f xs ++ f x ∷ []
 map_last f [] x = refl
@@ -193,14 +185,6 @@ pub changed_err : (k : List ℕ) (es after : Cells) (c d : Content) → {U : Typ
 changed_err k es after c d (Ok u) there is now = tt
 changed_err k es after c d (Err e) there is now = now ∙ ap (set_value (is_at (key_cmp k)) es) is ∙ set_value_same (is_at (key_cmp k)) es c there
 
-pub kept_either : (us vs : List Kept) (k : List ℕ) (f : Content → Content) (old new : Cells) → {U : Type 0} → (r : Result U AllocError) → vs ≡ us ++ (k, lookup (is_at (key_cmp k)) old) ∷ [] → Ascends key_of old → OnOk r (new ≡ put_cell k f old) → OnErr r (new ≡ old) → restored vs new ≡ restored us old
-kept_either us vs k f old new (Ok u) more asc ok err = kept_changed us vs k f old new more asc ok
-kept_either us vs k f old new (Err e) more asc ok err = kept_same us vs k old new more err
-
-pub keys_either : (us vs : List Kept) (u : Kept) → {U : Type 0} → (r : Result U AllocError) → vs ≡ us ++ u ∷ [] → OnOk r (kept_keys vs ≡ kept_keys us ++ u.0 ∷ [])
-keys_either us vs u (Ok x) is = keys_more us vs u is
-keys_either us vs u (Err e) is = tt
-
 -- nothing to put back where nothing stands
 pub set_missing : (k : List ℕ) (d : Content) (es : Cells) → lookup (is_at (key_cmp k)) es ≡ None → es ≡ set_value (is_at (key_cmp k)) es d
 set_missing k d [] h = refl
@@ -209,6 +193,13 @@ set_missing k d (p ∷ ps) h =
       | true ↦ λ g. some_none p.1 g
       | false ↦ λ g. ap (λ qs. p ∷ qs) (set_missing k d ps g)
     ] h
+
+-- what is given back where the key stands
+pub set_given : (k : List ℕ) (c d : Content) (t : Taken) (o : Option Taken) (es after : Cells) → o ≡ Some t → lookup (is_at (key_cmp k)) es ≡ Some c → d ≡ given_back t c → after ≡ set_value (is_at (key_cmp k)) es d → after ≡ put_back k o es
+set_given k c d t o es after is there given now =
+    now
+    ∙ ap (set_value (is_at (key_cmp k)) es) (given ∙ ap (given_back t) (content_some k es c there))
+    ∙ ap (λ z. put_back k z es) (sym is)
 
 -- one more put back
 pub put_more : (us vs : List Kept) (u : Kept) (now after all : Cells) → restored vs now ≡ all → vs ≡ us ++ u ∷ [] → after ≡ put_back u.0 u.1 now → restored us after ≡ all
@@ -221,6 +212,12 @@ wrote_last at (v ∷ ws) w old now next so_far more = wrote_last at ws w _ now n
 pub settled_last : (txn : ℕ) (commit : Option Stamp) (ks : List (List ℕ)) (k : List ℕ) (old now next : Cells) → now ≡ settled_at txn commit ks old → next ≡ put_cell k (settled txn commit) now → next ≡ settled_at txn commit (ks ++ k ∷ []) old
 settled_last txn commit [] k old now next so_far more = more ∙ ap (put_cell k (settled txn commit)) so_far
 settled_last txn commit (q ∷ ks) k old now next so_far more = settled_last txn commit ks k _ now next so_far more
+
+-- one key more settled
+pub settled_take : (txn : ℕ) (commit : Option Stamp) (ks : List (List ℕ)) (i : ℕ) (k : List ℕ) (old now next : Cells) → now ≡ settled_at txn commit (take i ks) old → i < length ks → k ≡ get_or ks i k → next ≡ put_cell k (settled txn commit) now → next ≡ settled_at txn commit (take (i + 1) ks) old
+settled_take txn commit ks i k old now next so_far low at more =
+    settled_last txn commit (take i ks) k old now next so_far more
+    ∙ ap (λ qs. settled_at txn commit qs old) (ap (λ z. take i ks ++ z ∷ []) at ∙ sym (take_more ks i k low))
 
 -- the keys of one write more
 pub keys_of_last : (us vs ps : List Kept) (ws : List (List ℕ × Option Value)) (w : List ℕ × Option Value) → kept_keys us ≡ kept_keys ps ++ map (λ p. p.0) ws → kept_keys vs ≡ kept_keys us ++ w.0 ∷ [] → kept_keys vs ≡ kept_keys ps ++ map (λ p. p.0) (ws ++ w ∷ [])

@@ -4,18 +4,20 @@ use Rattle.std.specs.Map.{remove_entry, set_value}
 use Rattle.std.specs.BTreeMap.{is_at}
 use Rattle.ds_base.specs.Order.{key_cmp}
 use Rattle.ds_base.specs.declared.value.Stamp.{Stamp}
-use Rattle.ds_cell.specs.Content.{Content, no_content}
+use Rattle.ds_cell.specs.Content.{no_content}
 use Rattle.ds_cell.specs.Change.{settled}
-use Rattle.ds_cell.specs.Ask.{Cells}
+use Rattle.ds_cell.specs.Taken.{given_back}
+use Rattle.ds_cell.specs.declared.taken.Taken.{Taken}
+use Rattle.ds_cell.specs.Ask.{Cells, content_at}
 use Rattle.ds_cell.specs.Store.{put_cell}
 
--- a key with what stood there, or that nothing did
+-- a key with what a change took there, or that nothing stood there
 abbrev pub Kept : Type 0
-Kept = List ℕ × Option Content
+Kept = List ℕ × Option Taken
 
-abbrev pub put_back : List ℕ → Option Content → Cells → Cells
+abbrev pub put_back : List ℕ → Option Taken → Cells → Cells
 put_back k None cells = remove_entry (is_at (key_cmp k)) cells
-put_back k (Some c) cells = set_value (is_at (key_cmp k)) cells c
+put_back k (Some t) cells = set_value (is_at (key_cmp k)) cells (given_back t (content_at k cells))
 
 -- the contents with all that was kept put back, the last kept first
 abbrev pub restored : List Kept → Cells → Cells

@@ -1,3 +1,4 @@
 pub mod Asks
+pub mod Covers
 pub mod Keeps
 pub mod Serves

@@ -1,51 +1,42 @@
 //! What is kept of the contents, so that changes can be taken back.
-ghost use Rattle.std.specs.Prelude.{◌≡◌, ◌∷◌, [], ◌++◌, OnOk, OnErr, IfOk};
-ghost use Rattle.std.specs.Map.{lookup};
-ghost use Rattle.std.specs.BTreeMap.{is_at};
-ghost use Rattle.ds_base.specs.Order.{key_cmp};
+ghost use Rattle.std.specs.Prelude.{◌≡◌, ◌∷◌, [], ◌++◌, OnOk, OnErr, IfErr};
 ghost use Rattle.ds_cell.specs.Store.{put_cell};
 ghost use Rattle.ds_range.specs.Keeps.{put_back, restored, kept_keys};
 
-use crate::change::{Change, change_at, ordered};
+use crate::change::{Change, change_at};
 use ds_base::{Copies, Key, ListOf};
-use ds_cell::Cell;
+use ds_cell::{Cell, Taken};
 use std::alloc::{AllocError, Global};
 use std::collections::BTreeMap;
 
-/// For each change the key, with a copy of what stood there, or that nothing did.
-pub type Undo = ListOf<(Key, Option<Cell>)>;
+/// For each change the key, with what it took there, or nothing where it began the key's cell.
+pub type Undo = ListOf<(Key, Option<Taken>)>;
 
-/// A copy of what stands at a key, if anything does.
-fn cell_at(
+/// Adds what a change took. Want of memory hands it back, and leaves the list as it was.
+fn keep(
     alloc: Global,
-    cells: &BTreeMap<Key, Cell>,
-    key: &Key,
-) -> Result<Option<Cell>, AllocError>
-    ensures { IfOk result (λ c. c ≡ lookup (is_at (key_cmp key.now)) cells.now.entries) }
+    undo: &mut Undo,
+    kept: (Key, Option<Taken>),
+) -> Result<(), (Key, Option<Taken>)>
+    ensures ok { OnOk result (undo.new ≡ undo.old ++ kept ∷ []) }
+    ensures err { OnErr result (undo.new ≡ undo.old) }
+    ensures back { IfErr result (λ same. same ≡ kept) }
 {
-    match cells.get(key) {
-        Some(cell) => Ok(Some(cell.copy(alloc)?)),
-        None => Ok(None),
+    let mut items = std::mem::replace(undo, Undo::new(alloc)).into_vec();
+    match items.push(kept) {
+        Ok(()) => {
+            *undo = Undo::from_vec(items);
+            Ok(())
+        }
+        Err(failed) => {
+            *undo = Undo::from_vec(items);
+            Err(failed.value)
+        }
     }
 }
 
-/// Keeps what stands at a key.
-fn keep(
-    alloc: Global,
-    cells: &BTreeMap<Key, Cell>,
-    key: &Key,
-    undo: &mut Undo,
-) -> Result<(), AllocError>
-    ensures ok { OnOk result (undo.new ≡ undo.old ++ (key.now, lookup (is_at (key_cmp key.now)) cells.now.entries) ∷ []) }
-    ensures err { OnErr result (undo.new ≡ undo.old) }
-{
-    let cell = cell_at(alloc, cells, key)?;
-    let key = key.copy(alloc)?;
-    undo.push(alloc, (key, cell))
-}
-
-/// Changes a key's cell, after what stands there was kept. After want of memory the contents may
-/// still be put back.
+/// Changes a key's cell, and keeps what this took. After want of memory the contents may still be put
+/// back.
 pub(crate) fn change_kept<C: Change>(
     alloc: Global,
     cells: &mut BTreeMap<Key, Cell>,
@@ -57,20 +48,26 @@ pub(crate) fn change_kept<C: Change>(
     ensures keys { OnOk result (kept_keys undo.new ≡ kept_keys undo.old ++ key.now ∷ []) }
     ensures back { restored undo.new cells.new.entries ≡ restored undo.old cells.old.entries }
 {
-    ordered(cells);
-    keep(alloc, cells, key, undo)?;
-    change_at(alloc, cells, key, change)
+    let copy = key.copy(alloc)?;
+    let taken = change_at(alloc, cells, key, change)?;
+    match keep(alloc, undo, (copy, taken)) {
+        Ok(()) => Ok(()),
+        Err((_, taken)) => {
+            put_back(cells, key, taken);
+            Err(AllocError)
+        }
+    }
 }
 
-/// Puts back what stood at a key. It takes no memory.
+/// Puts back what a change took at a key. It takes no memory.
 #[tactic(auto, using(crate::proofs::Maps::set_missing))]
-fn put_back(cells: &mut BTreeMap<Key, Cell>, key: &Key, kept: Option<Cell>)
+fn put_back(cells: &mut BTreeMap<Key, Cell>, key: &Key, kept: Option<Taken>)
     ensures { cells.new.entries ≡ put_back key.now kept cells.old.entries }
 {
     match kept {
-        Some(old) => {
+        Some(taken) => {
             if let Some(cell) = cells.get_mut(key) {
-                *cell = old;
+                cell.give_back(taken);
             }
         }
         None => {
@@ -80,12 +77,11 @@ fn put_back(cells: &mut BTreeMap<Key, Cell>, key: &Key, kept: Option<Cell>)
 }
 
 /// Puts back all that was kept, the last first. It takes no memory.
-
 pub(crate) fn put_all_back(cells: &mut BTreeMap<Key, Cell>, undo: Undo)
     ensures { cells.new.entries ≡ restored undo cells.old.entries }
 {
     let mut kept = undo.into_vec();
-    'kept: while let Some((key, cell)) = kept.pop() {
-        put_back(cells, &key, cell);
+    'kept: while let Some((key, taken)) = kept.pop() {
+        put_back(cells, &key, taken);
     }
 }

@@ -13,11 +13,11 @@ ghost use Rattle.ds_range.specs.Keeps.{restored};
 ghost use Rattle.ds_range.specs.Serves.{answer_of, undo_of, after_made};
 
 use crate::ask::{Asked, ask_cells};
-use crate::change::{Foreign, change_at};
+use crate::change::foreign_at;
 use crate::keep::{Undo, put_all_back};
 use crate::serve::{Applied, apply_to, at_of};
-use crate::settle::settle_all;
-use ds_base::{Key, Stamp, TxnNo, Value};
+use crate::settle::{settle_each, still_written, to_settle, written_after};
+use ds_base::{Key, Keys, Stamp, TxnNo, Value};
 use ds_cell::Cell;
 use ds_desc::Info;
 use ds_kind::{Bounds, Head, Item, Piece};
@@ -31,14 +31,20 @@ use std::marker::Model;
 pub struct RangeState {
     info: Info,
     cells: BTreeMap<Key, Cell>,
+    // Keys among which are all that have writes of transactions; `None` where they aren't known. So a
+    // transaction's end looks at these keys alone.
+    written: Option<Keys>,
 }
 
 impl Model for RangeState {
     ghost use Rattle.ds_rule.specs.World.{Range};
+    ghost use Rattle.ds_range.specs.Covers.{CoversIf};
 
     ghost Value = { Range };
 
     ghost view = { λ r. record { info = r.info; cells = r.cells.entries } };
+
+    ghost invariant = { λ r. CoversIf r.written r.cells.entries };
 }
 
 impl RangeState {
@@ -51,6 +57,7 @@ impl RangeState {
         RangeState {
             info,
             cells: BTreeMap::new(alloc),
+            written: Some(Keys::new(alloc)),
         }
     }
 
@@ -73,7 +80,7 @@ impl RangeState {
         ensures ok { OnOk result (self.new ≡ record (self.old) { cells = put_cell key.now (after_foreign (record { stamp = stamp; value = value })) (self.old).cells }) }
         ensures err { OnErr result (self.new ≡ self.old) }
     {
-        change_at(alloc, &mut self.cells, key, Foreign { stamp, value })
+        foreign_at(alloc, &mut self.cells, key, stamp, value)
     }
 
     /// What the item's request gives of what the range holds, at the keys where it acts.
@@ -91,13 +98,17 @@ impl RangeState {
         ensures back { IfOk result (λ a. restored (undo_of a) (self.new).cells ≡ (self.old).cells) }
         ensures err { OnErr result (self.new ≡ self.old) }
     {
-        apply_to(alloc, &mut self.cells, piece)
+        let applied = apply_to(alloc, &mut self.cells, piece)?;
+        let written = self.written.take();
+        self.written = written_after(alloc, &self.cells, written, &applied);
+        Ok(applied)
     }
 
     /// Puts back what was kept, the last first. It takes no memory.
     pub fn undo(&mut self, undo: Undo)
         ensures { self.new ≡ record (self.old) { cells = restored undo (self.old).cells } }
     {
+        self.written = None;
         put_all_back(&mut self.cells, undo);
     }
 
@@ -113,7 +124,10 @@ impl RangeState {
         ensures info { (self.new).info ≡ (self.old).info }
         ensures keys { map key_of (self.new).cells ≡ map key_of (self.old).cells }
     {
-        settle_all(alloc, &mut self.cells, txn, commit)
+        let keys = to_settle(alloc, &self.cells, self.written.take())?;
+        settle_each(alloc, &mut self.cells, keys.as_slice(), txn, commit)?;
+        self.written = still_written(alloc, &self.cells, &keys);
+        Ok(())
     }
 
     /// Whether the item's span lies in the range.

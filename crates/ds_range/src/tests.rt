@@ -142,3 +142,19 @@ fn an_intent_is_settled(rt: HostRuntime) -> Result<(), Fail> {
     assert!(rt; shows(asked, 5));
     Ok(())
 }
+
+// Where the keys with writes aren't known any more.
+#[test]
+fn intents_are_settled_after_a_write_was_taken_back(rt: HostRuntime) -> Result<(), Fail> {
+    let alloc = rt.alloc();
+    let mut range = range(alloc)?;
+    let piece = piece(alloc, Some(TxnNo(1)), increment(alloc, 5))?;
+    if let Applied::Served { undo, .. } = range.apply(alloc, &piece)? {
+        range.undo(undo);
+    }
+    range.apply(alloc, &piece)?;
+    range.settle(alloc, TxnNo(1), Some(Stamp(10)))?;
+    let asked = range.ask(alloc, &head(None), &get(alloc))?;
+    assert!(rt; shows(asked, 5));
+    Ok(())
+}

@@ -1,5 +1,5 @@
 use Rattle.std.proofs.Common.{◌∙◌}
-use Rattle.ds_range.proofs.Settling.{settled_take}
+use Rattle.ds_range.proofs.Maps.{settled_take}
 use Rattle.ds_range.proofs.settle.settle_kept.Goals as goal
 
 pub keys-preserved : goal.keys-preserved
