@@ -1,22 +1,23 @@
 -- The ranges tile the keys, so that each key lies in one.
-use Rattle.std.proofs.Common.{◌≡◌, ℕ, suc, ◌==◌, Bool, true, false, cond, not, ◌&&◌, ◌||◌, List, [], ◌∷◌, ◌++◌, refl, sym, ap, ◌∙◌, subst, length, map, take, reverse, arith, Result, Ok, Err, IfOk}
+use Rattle.std.proofs.Common.{◌≡◌, ℕ, suc, ◌+◌, ◌-◌, ◌<◌, drop, get_or, append_assoc, ◌==◌, Bool, true, false, cond, not, ◌&&◌, ◌||◌, List, [], ◌∷◌, ◌++◌, refl, sym, ap, ◌∙◌, subst, length, map, take, reverse, arith, Result, Ok, Err, IfOk}
 use Rattle.std.specs.declared.alloc.AllocError.{AllocError}
 use Rattle.ds_desc.specs.declared.desc.Info.{Info}
 use Rattle.std.specs.List.{list_any}
 use Rattle.std.specs.Ordering.{is_gt, is_le}
 use Rattle.std.specs.declared.cmp.Ordering.{Ordering}
 use Rattle.std.specs.declared.cmp.Ordering.TheVariants.{Less, Equal, Greater}
+use Rattle.std.proofs.Math.Seq.{take-length}
 use Rattle.std.proofs.lemmas.Bool.Decides.{nat_tests}
 use Rattle.ds_base.specs.Order.{key_lt, key_le, bound, holds, IsKey}
 use Rattle.ds_base.specs.declared.value.Dir.{Dir}
 use Rattle.ds_base.specs.declared.value.Dir.TheVariants.{Forward, Reverse}
-use Rattle.std.proofs.lemmas.List.{reverse-append}
+use Rattle.std.proofs.lemmas.List.{drop_more, length-drop, reverse-append}
 use Rattle.ds_base.proofs.KeyOrder.{and_first, and_second, key_le-not_lt}
 use Rattle.ds_base.proofs.OrderedFacts.{le_of_not_lt, not_lt_of_le, not_le_of_lt}
 use Rattle.ds_desc.specs.Contains.{contains, lies_ahead, first_contains}
 use Rattle.ds_rule.specs.declared.cluster.ClusterRange.{ClusterRange}
 use Rattle.ds_rule.specs.World.{Range, start_of, end_of, Tiles, in_order, from_first}
-use Rattle.ds_rule.specs.Begin.{next_start, ranges_of, tiles}
+use Rattle.ds_rule.specs.Begin.{next_start, range_of, ranges_of, rises, tiles}
 use Rattle.ds_rule.proofs.Tiling.{rises-tiles}
 use Rattle.ds_sim.specs.State.{rows_of}
 
@@ -128,3 +129,22 @@ first_row Reverse k rs t key h =
 pub first_ok : (d : Dir) (k : List ℕ) (rs : List Range) (r : Result (List Info) AllocError) → Tiles [] rs → IsKey k → lies_ahead d k ≡ true → IfOk r (λ is. is ≡ rows_of d k rs) → IfOk r (λ is. first_contains d k is ≡ true)
 first_ok d k rs (Ok is) t key h e = subst (λ z. first_contains d k z ≡ true) (sym e) (first_row d k rs t key h)
 first_ok d k rs (Err e) t key h g = tt
+
+-- the next range to be made
+pub next_range : (rs : List ClusterRange) (i : ℕ) (r : ClusterRange) → i < length rs → r ≡ get_or rs i r → drop i rs ≡ r ∷ drop (i + 1) rs
+next_range rs i r low at = drop_more rs i r low ∙ ap (λ z. z ∷ drop (i + 1) rs) (sym at)
+
+-- the slice to the end is all that is left
+pub next_end : (rs : List ClusterRange) (i : ℕ) (end : List ℕ) → end ≡ next_start (take (length rs - i) (drop i rs)) → end ≡ next_start (drop i rs)
+next_end rs i end is = is ∙ ap (λ n. next_start (take n (drop i rs))) (sym (length-drop i rs)) ∙ ap next_start (take-length (drop i rs))
+
+-- one range more was made
+pub one_range_more : (rs rest : List ClusterRange) (id : ℕ) (r : ClusterRange) (end : List ℕ) (m : Range) (made next all : List Range) → rs ≡ r ∷ rest → end ≡ next_start rest → m ≡ range_of id r end → next ≡ made ++ m ∷ [] → made ++ ranges_of id rs ≡ all → next ++ ranges_of (id + 1) rest ≡ all
+one_range_more rs rest id r end m made next all are ends is more so_far =
+    ap (λ z. z ++ ranges_of (id + 1) rest) (more ∙ ap (λ z. made ++ z ∷ []) (is ∙ ap (range_of id r) ends))
+    ∙ append_assoc made (range_of id r (next_start rest) ∷ []) (ranges_of (id + 1) rest)
+    ∙ sym (ap (λ z. made ++ ranges_of id z) are) ∙ so_far
+
+-- those after it still rise
+pub later_rise : (rs rest : List ClusterRange) (r : ClusterRange) → rs ≡ r ∷ rest → rises rs ≡ true → rises rest ≡ true
+later_rise rs rest r are h = and_second (key_lt r.start (next_start rest)) _ (sym (ap rises are) ∙ h)
