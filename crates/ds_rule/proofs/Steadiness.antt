@@ -25,7 +25,7 @@ use Rattle.ds_rule.specs.declared.journal.JournalStep.TheVariants.{Look, Send}
 use Rattle.ds_rule.specs.declared.record.TxnRecord.{TxnRecord}
 use Rattle.ds_rule.specs.Asking.{Made, Gives, Fails}
 use Rattle.ds_rule.specs.Begin.{ranges_of, first_world, is_leased, next_start}
-use Rattle.ds_rule.specs.Cause.{refused_in, lost_in}
+use Rattle.ds_rule.specs.Cause.{UsedUp, refused_in, lost_in}
 use Rattle.ds_rule.specs.Close.{closed, settle_by, settle_range, with_begin}
 use Rattle.ds_rule.specs.Deliver.{Stop, Turned, Ended, answer_at, answer_made, deliver_answer, deliver_answer_to, deliver_world, deliver_world_to, ends, has_id, holds_item, mismatch_rows, replaced, served, stop_answer, stops, world_at, world_made}
 use Rattle.ds_rule.specs.Journal.{Happening, Moved, Did, Runs}
@@ -110,6 +110,17 @@ to-steady w n p (Some r) st = at-steady w p r (stops w n p r) st
 
 deliver-steady : (w : World) (n : ℕ) (p : Piece) → Steady w → Steady (deliver_world w n p)
 deliver-steady w n p st = to-steady w n p (find (has_id p.range) w.ranges) st
+
+-- and so a call that meets nothing but its own steps
+pub quiet-steady : (hs : List Happening) (w v : World) → Each IsQuiet hs → Runs w hs v → Steady w → Steady v
+quiet-steady [] w v quiet r st = subst Steady (sym r) st
+quiet-steady (Moved e ∷ hs) w v quiet r st = absurd quiet.0
+quiet-steady (Did (Look k d (Looked.Rows infos)) ∷ hs) w v quiet r st = quiet-steady hs r.0 v quiet.1 r.2 (subst Steady (sym r.1.1) (look-steady w k d st))
+quiet-steady (Did (Look k d Looked.Lost) ∷ hs) w v quiet r st = absurd (quiet.0 tt)
+quiet-steady (Did (Send n p (Done rs)) ∷ hs) w v quiet r st = quiet-steady hs r.0 v quiet.1 r.2 (subst Steady (sym r.1.1) (deliver-steady w n p st))
+quiet-steady (Did (Send n p (Failed f)) ∷ hs) w v quiet r st = quiet-steady hs r.0 v quiet.1 r.2 (subst Steady (sym r.1.1) (deliver-steady w n p st))
+quiet-steady (Did (Send n p (Refused f)) ∷ hs) w v quiet r st = quiet-steady hs r.0 v quiet.1 r.2 (subst Steady (sym r.1.1) (deliver-steady w n p st))
+quiet-steady (Did (Send n p Lost) ∷ hs) w v quiet r st = absurd (quiet.0 tt)
 
 -- a lookup's first row is of a range
 
@@ -265,3 +276,7 @@ all-taken (Did (Send n p (Failed f)) ∷ hs) route w v st found routed quiet r =
     record { refusals = sums.0; losses = sums.1 }
 all-taken (Did (Send n p (Refused f)) ∷ hs) route w v st found routed quiet r = absurd (refused-never w route n p f st found routed.0 r.1.0)
 all-taken (Did (Send n p Lost) ∷ hs) route w v st found routed quiet r = absurd (quiet.0 tt)
+
+-- a budget of some tries is never used up where none is spent
+pub never-used-up : (budget r l : ℕ) (hs : List Happening) → 0 < budget → AllTaken hs → UsedUp budget r l hs → ⊥
+never-used-up budget r l hs some all used = let a = all.refusals in let b = all.losses in let c = used.refusals in let d = used.losses in let s = used.sum in omega (arith, some, a, b, c, d, s)
