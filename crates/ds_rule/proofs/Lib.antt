@@ -3,6 +3,7 @@ pub mod Course
 pub mod Delivered
 pub mod Examples
 pub mod ExamplesOfJournals
+pub mod ExamplesOfPaths
 pub mod ExamplesOfStores
 pub mod Failing
 pub mod Gathering
