@@ -1,22 +1,17 @@
 -- Worked examples of the definitions, some that hold and some that must not: what a sender did in one call, and steady
 -- worlds.
-use Rattle.std.proofs.Common.{◌≡◌, ℕ, ◌==◌, ◌<◌, true, List, [], ◌∷◌, length, Some, None, inl, inr, refl, lit<, arith}
-use Rattle.ds_base.specs.Order.{bound}
+use Rattle.std.proofs.Common.{◌≡◌, ◌==◌, ◌<◌, true, List, [], ◌∷◌, length, Some, None, refl, lit<, arith}
 use Rattle.ds_base.specs.declared.value.Dir.TheVariants.{Forward}
-use Rattle.ds_desc.specs.Counts.{Rose}
 use Rattle.ds_desc.specs.declared.meta.Looked.TheVariants as Looked
-use Rattle.ds_rule.specs.declared.answer.Answer.TheVariants.{Done, Lost}
+use Rattle.ds_rule.specs.declared.answer.Answer.TheVariants.{Lost}
 use Rattle.ds_rule.specs.declared.event.Event.TheVariants.{Abort}
-use Rattle.ds_rule.specs.declared.journal.JournalStep.{JournalStep}
 use Rattle.ds_rule.specs.declared.journal.JournalStep.TheVariants.{Look, Send}
 use Rattle.ds_rule.specs.Asking.{Asking}
 use Rattle.ds_rule.specs.Clauses.{Stands}
 use Rattle.ds_rule.specs.Journal.{Happening, Moved, Did, Accepted}
-use Rattle.ds_rule.specs.Path.{AreRouted, GoesTo, IsHigh, IsOf, IsRouted, IsStepOf, LosesOnly, Path, holds_span, route_by}
-use Rattle.ds_rule.specs.Pieces.{Each}
-use Rattle.ds_rule.specs.Steady.{Steady, has_lease, ids_differ}
-use Rattle.ds_rule.specs.World.{World}
-use Rattle.ds_rule.proofs.Examples.{key_a, key_g, key_m, low, high, world, info, get, put, scan, alone_at, piece, asked_at, got, wrote, differs, never}
+use Rattle.ds_rule.specs.Path.{AreRouted, GoesTo, IsHigh, IsOf, IsStepOf, LosesOnly, Path, holds_span, route_by}
+use Rattle.ds_rule.specs.Steady.{Steady}
+use Rattle.ds_rule.proofs.Examples.{key_a, key_m, low, high, world, get, scan, alone_at, piece, asked_at, got, wrote, differs, never}
 use Rattle.ds_rule.proofs.ExamplesOfJournals.{look, get_piece, get_gave, wire, a_get_is_a_piece_of_its_batch}
 
 -- the batch of one get at a

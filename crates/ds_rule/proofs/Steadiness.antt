@@ -1,5 +1,5 @@
 -- A world stays steady at each line that is built, and in it no routed piece is refused.
-use Rattle.std.proofs.Common.{◌≡◌, ℕ, zero, suc, ◌+◌, ◌<◌, ◌⊎◌, Bool, true, false, not, cond, ◌&&◌, ◌||◌, ◌==◌, List, [], ◌∷◌, ◌++◌, map, take, reverse, Option, Some, None, inl, inr, refl, sym, ap, ◌∙◌, subst, eq-eqb, ne_eqb, arith}
+use Rattle.std.proofs.Common.{◌≡◌, ℕ, ◌+◌, ◌<◌, ◌⊎◌, Bool, true, false, not, cond, ◌&&◌, ◌||◌, ◌==◌, List, [], ◌∷◌, ◌++◌, map, take, reverse, Option, Some, None, inl, inr, refl, sym, ap, ◌∙◌, subst, eq-eqb, ne_eqb, arith}
 use Rattle.std.specs.List.{find, list_any, list_all}
 use Rattle.std.proofs.lemmas.Grind.{reverse_onto}
 use Rattle.ds_base.specs.declared.value.Dir.{Dir}
@@ -12,8 +12,6 @@ use Rattle.ds_desc.specs.declared.desc.Info.{Info}
 use Rattle.ds_desc.specs.declared.meta.Looked.TheVariants as Looked
 use Rattle.ds_desc.specs.declared.refusal.Refusal.{Refusal}
 use Rattle.ds_desc.specs.declared.refusal.Refusal.TheVariants.{NotFound, NotLease, Mismatch}
-use Rattle.ds_kind.specs.Request.{span_of}
-use Rattle.ds_kind.specs.declared.batch.Item.{Item}
 use Rattle.ds_kind.specs.declared.batch.Piece.{Piece}
 use Rattle.ds_kind.specs.declared.reply.Failure.{Failure}
 use Rattle.ds_cell.specs.Ask.{Cells}
@@ -24,14 +22,14 @@ use Rattle.ds_rule.specs.declared.event.Event.TheVariants.{Write}
 use Rattle.ds_rule.specs.declared.journal.JournalStep.TheVariants.{Look, Send}
 use Rattle.ds_rule.specs.declared.record.TxnRecord.{TxnRecord}
 use Rattle.ds_rule.specs.Asking.{Made, Gives, Fails}
-use Rattle.ds_rule.specs.Begin.{ranges_of, first_world, is_leased, next_start}
+use Rattle.ds_rule.specs.Begin.{ranges_of, first_world, is_leased}
 use Rattle.ds_rule.specs.Cause.{UsedUp, refused_in, lost_in}
 use Rattle.ds_rule.specs.Close.{closed, settle_by, settle_range, with_begin}
-use Rattle.ds_rule.specs.Deliver.{Stop, Turned, Ended, answer_at, answer_made, deliver_answer, deliver_answer_to, deliver_world, deliver_world_to, ends, has_id, holds_item, mismatch_rows, replaced, served, stop_answer, stops, world_at, world_made}
+use Rattle.ds_rule.specs.Deliver.{Stop, Turned, answer_at, answer_made, deliver_answer, deliver_answer_to, deliver_world, deliver_world_to, ends, has_id, holds_item, mismatch_rows, replaced, served, stops, world_at, world_made}
 use Rattle.ds_rule.specs.Journal.{Happening, Moved, Did, Runs}
 use Rattle.ds_rule.specs.Law.{IsQuiet}
 use Rattle.ds_rule.specs.Moves.{moved, holds_key}
-use Rattle.ds_rule.specs.Path.{AreRouted, GoesTo, IsRouted, holds_span, route_by}
+use Rattle.ds_rule.specs.Path.{AreRouted, GoesTo, IsRouted, route_by}
 use Rattle.ds_rule.specs.Pieces.{Each, IsOneOf}
 use Rattle.ds_rule.specs.Steady.{Steady, has_lease, ids_differ, infos_in}
 use Rattle.ds_rule.specs.World.{World, Range, from_first, in_order, look_rows, look_world, rows_at, without_first}

@@ -22,7 +22,7 @@ use Rattle.ds_rule.specs.declared.journal.JournalStep.TheVariants.{Send}
 use Rattle.ds_rule.specs.Asking.{Asking, Gives, Fails, ask_all, asking_by, finished, txn_of, txn_number}
 use Rattle.ds_rule.specs.Cause.{IsIdle, IsWholeOf, LastFails, LastLost, LastServes, TooWide}
 use Rattle.ds_rule.specs.Clauses.{Stands}
-use Rattle.ds_rule.specs.Deliver.{has_id, holds_item, served, deliver_answer}
+use Rattle.ds_rule.specs.Deliver.{has_id, holds_item, deliver_answer}
 use Rattle.ds_rule.specs.Journal.{Happening, Did as Stepped, Runs, Accepted, pairs}
 use Rattle.ds_rule.specs.Law.{LeadsTo, IsProperRead, IsSingle, IsQuiet, MayAct, WholeLaw}
 use Rattle.ds_rule.specs.Path.{Path, IsHigh, IsOf}

@@ -9,7 +9,6 @@ use Rattle.ds_kind.specs.Request.{span_of}
 use Rattle.ds_kind.specs.declared.batch.Piece.{Piece}
 use Rattle.ds_rule.specs.declared.journal.JournalStep.{JournalStep}
 use Rattle.ds_rule.specs.declared.journal.JournalStep.TheVariants.{Look, Send}
-use Rattle.ds_rule.specs.declared.event.Event.{Event}
 use Rattle.ds_rule.specs.Asking.{Asking}
 use Rattle.ds_rule.specs.Clauses.{Stands, IsAbove, IsLost}
 use Rattle.ds_rule.specs.Journal.{Happening, Moved, Did, Runs, Accepted, accepted}
