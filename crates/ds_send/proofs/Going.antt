@@ -1,5 +1,5 @@
 -- The steps of one piece.
-use Rattle.std.proofs.Common.{◌≡◌, ℕ, ◌+◌, Bool, true, false, cond, not, ◌&&◌, List, [], ◌∷◌, ◌++◌, Option, Some, None, refl, sym, ap, ◌∙◌, subst, slice_get, map, append_assoc}
+use Rattle.std.proofs.Common.{◌≡◌, ℕ, ◌+◌, Bool, true, false, cond, not, ◌&&◌, List, [], ◌∷◌, ◌++◌, Some, None, refl, sym, ap, ◌∙◌, subst, slice_get, map, append_assoc}
 use Rattle.std.specs.Ordering.{is_gt, is_le}
 use Rattle.std.specs.declared.cmp.Ordering.{Ordering}
 use Rattle.std.specs.declared.cmp.Ordering.TheVariants.{Less, Equal, Greater}
@@ -21,9 +21,9 @@ use Rattle.ds_rule.specs.declared.answer.Answer.{Answer}
 use Rattle.ds_rule.specs.declared.answer.Answer.TheVariants.{Done, Failed}
 use Rattle.ds_rule.specs.declared.journal.JournalStep.TheVariants.{Look, Send}
 use Rattle.ds_rule.specs.Asking.{Asking}
-use Rattle.ds_rule.specs.Cause.{Trip, LastFails, losses_of, refusals_of}
+use Rattle.ds_rule.specs.Cause.{Trip, losses_of, refusals_of}
 use Rattle.ds_rule.specs.Clauses.{Stands, Steps, and_step}
-use Rattle.ds_rule.specs.Journal.{Happening, Moved, Did, Accepted, accepted_by, pairs}
+use Rattle.ds_rule.specs.Journal.{Happening, Moved, Did, accepted_by, pairs}
 use Rattle.ds_rule.specs.Path.{GoesTo, holds_span}
 use Rattle.ds_rule.specs.Pieces.{PieceOf}
 use Rattle.ds_rule.specs.Gathered.{IsBody}

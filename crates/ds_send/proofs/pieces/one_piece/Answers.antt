@@ -1,14 +1,11 @@
-use Rattle.std.proofs.Common.{◌≡◌, true, refl, sym, ap, ◌∙◌, [], ◌∷◌, subst, Some}
-use Rattle.ds_base.specs.Order.{key_lt, key_le, min_key}
-use Rattle.ds_base.specs.declared.value.Dir.TheVariants.{Forward}
+use Rattle.std.proofs.Common.{◌≡◌, true, refl, sym, ap, ◌∙◌, subst}
+use Rattle.ds_base.specs.Order.{key_lt, key_le}
 use Rattle.ds_base.proofs.KeyOrder.{and_second}
 use Rattle.ds_base.proofs.OrderedFacts.{le_trans}
 use Rattle.ds_kind.specs.Request.{cut_to, span_of}
-use Rattle.ds_rule.specs.declared.answer.Answer.{Answer}
 use Rattle.ds_rule.specs.declared.answer.Answer.TheVariants.{Done, Failed, Refused, Lost}
 use Rattle.ds_rule.specs.Pieces.{PieceOf}
 use Rattle.ds_rule.proofs.Routes.{le_itself}
-use Rattle.ds_send.specs.Routed.{RoutedBy}
 use Rattle.ds_send.proofs.Cuts.{piece-of}
 use Rattle.ds_send.proofs.Going.{min_above, min_within, part-goes, lost-look, is-sent, sent-trip, sent-failed, sent-done, some-reply, reply-kind}
 use Rattle.ds_send.proofs.pieces.one_piece.Goals as goal
