@@ -17,8 +17,8 @@ use Rattle.ds_rule.specs.StandsFor.{IsKnown}
 use Rattle.ds_send.specs.Asked.{asker_of}
 use Rattle.ds_send.specs.Batch.{is_built, is_built_request, is_plain_read}
 use Rattle.ds_send.specs.declared.txn.Txn.{Txn}
+use Rattle.ds_replay.specs.Comes.{MayCome}
 use Rattle.ds_replay.specs.Stages.{HasOpen, IsOpenIn}
-use Rattle.ds_replay.proofs.Answering.{IsSure}
 
 -- reads take no numbers
 
@@ -80,7 +80,7 @@ failed-open : (txn : Txn) (b : Batch) (o : Outcome) (p : Store) → b.at ≡ Non
 failed-open txn b o p at none h =
     subst (λ x. HasOpen txn (if_of_txn x failed_txn (counted_store b o p).txn)) (sym at) (open-failed txn (counted_store b o p).txn (counted-open txn b o p at none h))
 
-pub still-open : (txn : Txn) (b : Batch) (o : Outcome) (p next : Store) → IsSure o → b.at ≡ None → count_numbered b.requests ≡ 0 → HasOpen txn p.txn → Answered p b o next → HasOpen txn next.txn
+pub still-open : (txn : Txn) (b : Batch) (o : Outcome) (p next : Store) → MayCome o → b.at ≡ None → count_numbered b.requests ≡ 0 → HasOpen txn p.txn → Answered p b o next → HasOpen txn next.txn
 still-open txn b (Outcome.Ambiguous n) p next sure at none h a = absurd sure
 still-open txn b Outcome.OutOfMemory p next sure at none h a = absurd a
 still-open txn b (Outcome.Ok rs) p next sure at none h a = subst (λ z. HasOpen txn z.txn) (sym a.next) (counted-open txn b (Outcome.Ok rs) p at none h)

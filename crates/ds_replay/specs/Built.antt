@@ -7,7 +7,7 @@ use Rattle.ds_kind.specs.declared.batch.Batch.{Batch}
 use Rattle.ds_kind.specs.declared.request.Request.{Request}
 use Rattle.ds_rule.specs.declared.event.Block.{Block}
 use Rattle.ds_rule.specs.declared.cluster.ClusterRange.{ClusterRange}
-use Rattle.ds_rule.specs.Begin.{tiles}
+use Rattle.ds_rule.specs.Begin.{is_leased, tiles}
 use Rattle.ds_script.specs.declared.line.Line.{Line}
 use Rattle.ds_script.specs.declared.line.Line.TheVariants as Line
 use Rattle.ds_script.specs.declared.line.Numbered.{Numbered}
@@ -19,9 +19,9 @@ pub data Stage : Type 0 where
   Closed : Stage
   Open : ℕ → Stage
 
--- at most 1,024 ranges, which tile the keys
+-- at most 1,024 ranges, which tile the keys, each with its lease at a node that has a replica
 abbrev pub is_cluster : List ClusterRange → Bool
-is_cluster rs = tiles rs && nat_le (length rs) 1024
+is_cluster rs = tiles rs && nat_le (length rs) 1024 && list_all is_leased rs
 
 -- nothing happens beside the batch, and no piece is picked
 abbrev pub is_quiet : Block → Bool

@@ -2,6 +2,7 @@
 use Rattle.std.specs.Prelude.{◌≡◌, ℕ, ◌≤◌, List, Option, Some, None}
 use Rattle.ds_cell.specs.Store.{Asker, Store, StoreTxn, Pending, empty_store}
 use Rattle.ds_rule.specs.StandsFor.{StandsFor, IsKnown}
+use Rattle.ds_rule.specs.Steady.{Steady}
 use Rattle.ds_script.specs.Journals.{Played, first_played}
 use Rattle.ds_send.specs.declared.txn.Txn.{Txn}
 use Rattle.ds_send.specs.Asked.{asker_of}
@@ -16,10 +17,11 @@ stage_of State.Start = Start
 stage_of (State.Closed sim begun) = Closed
 stage_of (State.Open sim txn begun) = Open txn.stamp.0
 
--- the cluster is the world that was played, which stands for the store; so many transactions have begun
+-- the cluster is the world that was played, which stands for the store and is steady; so many transactions have begun
 pub record IsIn (sim : Sim) (begun : ℕ) (s : Played) (p : Store) : Type 0 where
   pub world : s.world ≡ (state_of sim).world
   pub stands : StandsFor s.world p
+  pub steady : Steady s.world
   pub played : s.asks.begun ≡ begun
   pub stored : p.begun ≡ begun
 
