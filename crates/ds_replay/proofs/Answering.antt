@@ -1,18 +1,12 @@
 -- What one batch of a replay came to.
-use Rattle.std.proofs.Common.{◌≡◌, ℕ, ◌+◌, ◌<◌, ◌≤◌, Bool, true, false, cond, ◌&&◌, List, [], ◌∷◌, ◌++◌, map, length, filter, Option, Some, None, is_some, is_none, inl, inr, refl, sym, ap, ◌∙◌, subst, arith}
-use Rattle.std.specs.List.{list_all}
-use Rattle.std.specs.Option.{option_map}
-use Rattle.ds_base.specs.declared.value.Stamp.{Stamp}
+use Rattle.std.proofs.Common.{◌≡◌, ℕ, ◌<◌, true, false, List, [], ◌∷◌, ◌++◌, map, Option, Some, None, refl, sym, ap, ◌∙◌, subst}
 use Rattle.ds_base.specs.declared.value.TxnNo.{TxnNo}
 use Rattle.ds_desc.specs.Counts.{Rose}
 use Rattle.ds_kind.specs.declared.batch.Batch.{Batch}
 use Rattle.ds_kind.specs.declared.illegal.Illegal.{Illegal}
-use Rattle.ds_kind.specs.declared.reply.Failure.TheVariants as Failure
-use Rattle.ds_legal.specs.Legal.{IsLegal}
 use Rattle.ds_legal.specs.Rules.{first_illegal}
-use Rattle.ds_cell.specs.Store.{Asker, Store, StoreTxn, Fate, Pending}
+use Rattle.ds_cell.specs.Store.{Store, StoreTxn, Pending}
 use Rattle.ds_rule.specs.declared.answer.Outcome.{Outcome}
-use Rattle.ds_rule.specs.declared.answer.Outcome.TheVariants as Outcome
 use Rattle.ds_rule.specs.declared.journal.JournalStep.{JournalStep}
 use Rattle.ds_rule.specs.Asking.{Asking, asking}
 use Rattle.ds_rule.specs.Blocks.{BlockPlays}
@@ -20,18 +14,17 @@ use Rattle.ds_rule.specs.Cause.{CauseOf, WholeCauseOf}
 use Rattle.ds_rule.specs.Clauses.{Stands}
 use Rattle.ds_rule.specs.Gathered.{Gathered}
 use Rattle.ds_rule.specs.Journal.{Happening, Did as Stepped, Runs, Accepted, accepted}
-use Rattle.ds_rule.specs.Law.{Did, DidWhole, IsGiven, IsPlainFor, IsQuiet, LeadsTo, MayAct}
+use Rattle.ds_rule.specs.Law.{Did, IsGiven, IsPlainFor, IsQuiet, LeadsTo, MayAct}
 use Rattle.ds_rule.specs.Path.{Path, IsOf, LosesOnly}
 use Rattle.ds_rule.specs.Pieces.{Each}
 use Rattle.ds_rule.specs.Plain.{is_pending}
-use Rattle.ds_rule.specs.StandsFor.{StandsFor, Ready}
+use Rattle.ds_rule.specs.StandsFor.{Ready}
 use Rattle.ds_rule.specs.Steady.{Steady}
 use Rattle.ds_rule.proofs.Recorded.{Pends}
 use Rattle.ds_rule.proofs.Steadiness.{quiet-steady}
 use Rattle.ds_rule.proofs.WholeGathered.{whole-gathered}
 use Rattle.ds_script.specs.Journals.{Asks, BatchGathers, InOnePiece, accepted_in, sees_one_state}
-use Rattle.ds_send.specs.Sent.{DidOnce, IsWholeSendable, PlainIf, WasQuiet, is_whole}
-use Rattle.ds_replay.specs.Asked.{begun_block}
+use Rattle.ds_send.specs.Sent.{DidOnce, IsWholeSendable, PlainIf, is_whole}
 use Rattle.ds_replay.specs.Causes.{BatchCause, SentCause}
 use Rattle.ds_replay.specs.Comes.{MayCome}
 use Rattle.ds_replay.proofs.Blocks.{never-rose, quiet-steps, steps-play, steps-accepted, one-served}

@@ -1,44 +1,36 @@
 -- The line of a batch.
-use Rattle.std.proofs.Common.{◌≡◌, ℕ, suc, ◌+◌, ◌<◌, ◌==◌, Bool, true, false, cond, ◌&&◌, List, [], ◌∷◌, ◌++◌, map, length, Option, Some, None, is_some, is_none, inl, inr, refl, sym, ap, ◌∙◌, subst, nat_lt, arith}
-use Rattle.std.specs.List.{list_all}
+use Rattle.std.proofs.Common.{◌≡◌, ℕ, suc, ◌<◌, ◌==◌, Bool, true, false, List, [], ◌∷◌, map, length, Option, Some, None, refl, sym, ap, ◌∙◌, subst, arith}
 use Rattle.std.proofs.lemmas.Bool.Decides.{nat_tests}
 use Rattle.ds_base.proofs.KeyOrder.{and_first, and_second}
-use Rattle.ds_base.specs.declared.value.Stamp.{Stamp}
-use Rattle.ds_kind.specs.Asks.{is_get_or_scan, has_proper_span}
 use Rattle.ds_kind.specs.declared.batch.Batch.{Batch}
 use Rattle.ds_kind.specs.declared.illegal.Illegal.{Illegal}
-use Rattle.ds_kind.specs.declared.request.Request.{Request}
 use Rattle.ds_legal.specs.Legal.{IsLegal}
 use Rattle.ds_legal.specs.Rules.{first_illegal}
 use Rattle.ds_legal.proofs.LegalFacts.{legal_of}
-use Rattle.ds_cell.specs.Store.{Asker, Store, StoreTxn}
+use Rattle.ds_cell.specs.Store.{Asker, Store}
 use Rattle.ds_rule.specs.declared.answer.Outcome.{Outcome}
 use Rattle.ds_rule.specs.declared.event.Block.{Block}
-use Rattle.ds_rule.specs.declared.event.Timed.{Timed}
 use Rattle.ds_rule.specs.declared.journal.Entry.{Entry}
 use Rattle.ds_rule.specs.declared.journal.Entry.TheVariants as entries
 use Rattle.ds_rule.specs.declared.journal.JournalStep.{JournalStep}
 use Rattle.ds_rule.specs.Asking.{Asking, asking}
 use Rattle.ds_rule.specs.Blocks.{BlockPlays}
 use Rattle.ds_rule.specs.Clauses.{Stands}
-use Rattle.ds_rule.specs.Journal.{Happening, Did as Stepped}
-use Rattle.ds_rule.specs.Law.{IsGiven, IsProperRead, LeadsTo, MayAct}
-use Rattle.ds_rule.specs.Pieces.{Each}
+use Rattle.ds_rule.specs.Journal.{Did as Stepped}
+use Rattle.ds_rule.specs.Law.{IsGiven, MayAct}
 use Rattle.ds_rule.specs.Plain.{Answered, after_events}
 use Rattle.ds_rule.specs.StandsFor.{StandsFor, Ready, after_made}
 use Rattle.ds_rule.specs.Steady.{Steady}
 use Rattle.ds_rule.proofs.Recorded.{Pends}
 use Rattle.ds_rule.specs.World.{World}
-use Rattle.ds_script.specs.declared.line.Line.{Line}
 use Rattle.ds_script.specs.declared.line.Line.TheVariants as lines
-use Rattle.ds_script.specs.Journals.{Asks, Played, JournalTurn, GatherTurn, BatchPlays, answered_asks}
+use Rattle.ds_script.specs.Journals.{Asks, Played, JournalTurn, GatherTurn, answered_asks}
 use Rattle.ds_script.specs.PlainRuns.{PlainTurn}
 use Rattle.ds_send.specs.Batch as Sends
 use Rattle.ds_send.specs.Sent.{Ruled, Sent, SentBy, Plain, PlainIf, IsOpenFor, is_whole}
 use Rattle.ds_send.proofs.Meaning.{single-sendable}
-use Rattle.ds_send.proofs.Readings.{as-items, reads-proper, all-plain}
 use Rattle.ds_replay.specs.Asked.{AskedBy, begun_block}
-use Rattle.ds_replay.specs.Built.{is_sent, is_quiet}
+use Rattle.ds_replay.specs.Built.{is_sent}
 use Rattle.ds_replay.proofs.Answering.{Came, came-each, came-whole, came-illegal}
 use Rattle.ds_replay.proofs.Blocks.{steps-made}
 use Rattle.ds_replay.proofs.Readiness.{is-asked}

@@ -1,8 +1,7 @@
 -- The lines of batches.
-use Rattle.std.proofs.Common.{◌≡◌, ℕ, ◌+◌, ◌<◌, ◌≤◌, Bool, true, false, ◌&&◌, ◌||◌, List, [], ◌∷◌, ◌++◌, map, Option, Some, None, is_some, is_none, inl, inr, refl, sym, ap, ◌∙◌, subst, nat_lt, arith}
+use Rattle.std.proofs.Common.{◌≡◌, ℕ, ◌<◌, Bool, true, ◌&&◌, List, Option, Some, None, is_some, is_none, inl, inr, refl, sym, ap, ◌∙◌, subst, nat_lt}
 use Rattle.std.specs.List.{list_all}
 use Rattle.std.specs.Option.{option_map}
-use Rattle.std.proofs.lemmas.Bool.Decides.{nat_tests}
 use Rattle.ds_base.proofs.KeyOrder.{and_first, and_second}
 use Rattle.ds_base.specs.declared.value.Stamp.{Stamp}
 use Rattle.ds_kind.specs.declared.batch.Batch.{Batch}
@@ -13,18 +12,15 @@ use Rattle.ds_rule.specs.declared.answer.Outcome.{Outcome}
 use Rattle.ds_rule.specs.declared.event.Block.{Block}
 use Rattle.ds_rule.specs.declared.journal.Entry.{Entry}
 use Rattle.ds_rule.specs.declared.journal.Entry.TheVariants as entries
-use Rattle.ds_rule.specs.declared.journal.JournalStep.{JournalStep}
 use Rattle.ds_rule.specs.Asking.{Asking, asking, asking_by}
-use Rattle.ds_rule.specs.Clauses.{Stands}
-use Rattle.ds_rule.specs.Law.{IsProperRead, MayAct}
+use Rattle.ds_rule.specs.Law.{IsProperRead}
 use Rattle.ds_rule.specs.Pieces.{Each}
 use Rattle.ds_rule.specs.Plain.{Answered, asker_after, count_numbered, if_of_txn}
 use Rattle.ds_rule.specs.StandsFor.{StandsFor, Ready}
 use Rattle.ds_rule.specs.Steady.{Steady}
 use Rattle.ds_rule.proofs.Recorded.{Pends}
-use Rattle.ds_script.specs.declared.line.Line.{Line}
 use Rattle.ds_script.specs.declared.line.Line.TheVariants as lines
-use Rattle.ds_script.specs.Journals.{Asks, Played, answered_asks}
+use Rattle.ds_script.specs.Journals.{Played, answered_asks}
 use Rattle.ds_send.specs.Asked.{asker_of}
 use Rattle.ds_send.specs.Batch as Sends
 use Rattle.ds_send.specs.Sent.{IsOpenFor, is_whole}
@@ -33,14 +29,13 @@ use Rattle.ds_send.proofs.Readings.{as-items, reads-proper, all-plain}
 use Rattle.ds_sim.specs.declared.sim.Sim.{Sim}
 use Rattle.ds_sim.specs.State.{state_of}
 use Rattle.ds_replay.specs.declared.state.State.{State}
-use Rattle.ds_replay.specs.declared.state.State.TheVariants as State
 use Rattle.ds_replay.specs.Asked.{AskedBy, begun_block}
 use Rattle.ds_replay.specs.Built.{is_sent, may_stand_by}
 use Rattle.ds_replay.specs.Comes.{MayCome}
-use Rattle.ds_replay.specs.Stages.{IsIn, IsOpenIn, HasOpen, StandsAt}
+use Rattle.ds_replay.specs.Stages.{IsIn, HasOpen, StandsAt}
 use Rattle.ds_replay.specs.Taken.{LineTaken}
-use Rattle.ds_replay.proofs.Answering.{Came, pends-any}
-use Rattle.ds_replay.proofs.AskedLine.{Owes, Turned, came, turned}
+use Rattle.ds_replay.proofs.Answering.{pends-any}
+use Rattle.ds_replay.proofs.AskedLine.{Owes, came, turned}
 use Rattle.ds_replay.proofs.Readiness.{lt_of, ready-alone, ready-open}
 use Rattle.ds_replay.proofs.Staying.{asker-stays, no-numbers, same-begun, same-txn, still-open}
 

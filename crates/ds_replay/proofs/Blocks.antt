@@ -1,5 +1,5 @@
 -- The block of a batch, read off what its sender did.
-use Rattle.std.proofs.Common.{◌≡◌, ℕ, ◌+◌, ◌<◌, ◌≤◌, ◌-◌, ◌^◌, Bool, true, false, List, [], ◌∷◌, ◌++◌, map, inl, inr, refl, sym, ap, ◌∙◌, subst, arith}
+use Rattle.std.proofs.Common.{◌≡◌, ℕ, ◌+◌, List, [], ◌∷◌, ◌++◌, map, inl, inr, refl, sym, ap, ◌∙◌, arith}
 use Rattle.ds_desc.specs.Counts.{Rose}
 use Rattle.ds_desc.specs.declared.meta.Looked.TheVariants as Looked
 use Rattle.ds_kind.specs.declared.reply.Reply.{Reply}
@@ -13,7 +13,7 @@ use Rattle.ds_rule.specs.Cause.{IsIdle, LastServes}
 use Rattle.ds_rule.specs.Clauses.{IsLost}
 use Rattle.ds_rule.specs.Journal.{Happening, Moved, Did, Does, Runs, accepted, accepted_by}
 use Rattle.ds_rule.specs.Law.{IsQuiet}
-use Rattle.ds_rule.specs.Path.{IsOf, IsStepOf, LosesOnly}
+use Rattle.ds_rule.specs.Path.{IsOf, LosesOnly}
 use Rattle.ds_rule.specs.Pieces.{Each}
 use Rattle.ds_rule.specs.StandsFor.{after_made}
 use Rattle.ds_rule.specs.World.{World}

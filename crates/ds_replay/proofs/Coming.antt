@@ -1,10 +1,9 @@
 -- What a batch is answered that meets nothing but its own steps, in a steady world.
-use Rattle.std.proofs.Common.{◌≡◌, ℕ, ◌<◌, List, [], ◌∷◌, None, inl, inr, subst}
+use Rattle.std.proofs.Common.{ℕ, ◌<◌, List, None, inl, inr, subst}
 use Rattle.ds_kind.specs.declared.batch.Batch.{Batch}
 use Rattle.ds_kind.specs.declared.reply.Failure.TheVariants as Failure
 use Rattle.ds_cell.specs.Store.{Store}
 use Rattle.ds_rule.specs.declared.answer.Outcome.{Outcome}
-use Rattle.ds_rule.specs.declared.answer.Outcome.TheVariants as Outcome
 use Rattle.ds_rule.specs.Asking.{Asking}
 use Rattle.ds_rule.specs.Cause.{LastLost}
 use Rattle.ds_rule.specs.Clauses.{Stands}

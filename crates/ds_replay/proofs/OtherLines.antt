@@ -1,34 +1,28 @@
 -- The lines of a script but for batches.
-use Rattle.std.proofs.Common.{◌≡◌, ℕ, ◌+◌, ◌<◌, ◌≤◌, Bool, true, false, ◌&&◌, List, [], ◌∷◌, ◌++◌, Option, Some, None, refl, sym, ap, ◌∙◌, subst, nat_lt, arith}
+use Rattle.std.proofs.Common.{◌≡◌, ℕ, ◌+◌, ◌≤◌, true, false, ◌&&◌, List, [], ◌∷◌, ◌++◌, Option, Some, None, refl, sym, ap, ◌∙◌, subst, nat_lt, arith}
 use Rattle.std.specs.List.{list_all}
-use Rattle.std.proofs.lemmas.Bool.Decides.{nat_tests}
 use Rattle.ds_base.proofs.KeyOrder.{and_first, and_second}
 use Rattle.ds_base.specs.Order.{key_lt, bound}
 use Rattle.ds_base.specs.declared.key.Key.{Key}
 use Rattle.ds_base.specs.declared.value.Stamp.{Stamp}
-use Rattle.ds_base.specs.declared.value.TxnNo.{TxnNo}
 use Rattle.ds_base.specs.declared.value.Value.{Value}
-use Rattle.ds_kind.specs.declared.reply.TxnStatus.{TxnStatus}
-use Rattle.ds_cell.specs.Store.{Asker, Store, StoreTxn, Pending}
+use Rattle.ds_cell.specs.Store.{Store, StoreTxn}
 use Rattle.ds_rule.specs.declared.cluster.Cluster.{Cluster}
 use Rattle.ds_rule.specs.declared.event.Event.TheVariants.{Write}
 use Rattle.ds_rule.specs.declared.journal.Entry.{Entry}
 use Rattle.ds_rule.specs.declared.journal.Entry.TheVariants as entries
 use Rattle.ds_rule.specs.Begin.{first_world, is_leased, tiles}
-use Rattle.ds_rule.specs.Clauses.{Stands}
 use Rattle.ds_rule.specs.Close.{with_begin, closed, close_status, settle_cells}
 use Rattle.ds_rule.specs.Moves.{moved}
 use Rattle.ds_rule.specs.Plain.{after_event}
 use Rattle.ds_rule.specs.StandsFor.{StandsFor, open_stamp}
-use Rattle.ds_rule.specs.World.{World}
 use Rattle.ds_rule.proofs.Lifetime.{first-stands, begin-stands, close-stands, close-says}
 use Rattle.ds_rule.proofs.Standing.{stands-moved}
 use Rattle.ds_rule.proofs.Steadiness.{begin-steady, close-steady, first-steady, write-steady}
-use Rattle.ds_script.specs.declared.line.Line.{Line}
 use Rattle.ds_script.specs.declared.line.Line.TheVariants as lines
 use Rattle.ds_script.specs.declared.line.Numbered.{Numbered}
 use Rattle.ds_script.specs.Runs.{has_entry, TakesEntry}
-use Rattle.ds_script.specs.Journals.{Asks, Played, next_asker, first_played}
+use Rattle.ds_script.specs.Journals.{Played, next_asker}
 use Rattle.ds_script.specs.PlainRuns.{Closes, commit_stamp, new_txn, status_of, with_txn}
 use Rattle.ds_send.specs.Asked.{asker_of}
 use Rattle.ds_send.specs.declared.txn.Txn.{Txn}
@@ -36,9 +30,8 @@ use Rattle.ds_sim.specs.declared.sim.Sim.{Sim}
 use Rattle.ds_sim.specs.State.{state_of}
 use Rattle.ds_sim.proofs.Begins.{tiled}
 use Rattle.ds_replay.specs.declared.state.State.{State}
-use Rattle.ds_replay.specs.declared.state.State.TheVariants as State
-use Rattle.ds_replay.specs.Stages.{IsIn, IsOpenIn, HasOpen, StandsAt}
-use Rattle.ds_replay.specs.Taken.{LineTaken, Taken, listed}
+use Rattle.ds_replay.specs.Stages.{IsIn, HasOpen, StandsAt}
+use Rattle.ds_replay.specs.Taken.{LineTaken, Taken}
 use Rattle.ds_replay.proofs.Readiness.{lt_of}
 
 append-nil : (log : List Entry) → log ≡ log ++ []

@@ -12,12 +12,11 @@ use Rattle.ds_script.specs.PlainRuns.{PlainRun, PlainTurn}
 use Rattle.ds_script.specs.Rules.{keeps_rules, numbers_rise}
 use Rattle.ds_script.specs.Runs.{Plays, TakesEntry, has_entry}
 use Rattle.ds_replay.specs.declared.state.State.{State}
-use Rattle.ds_replay.specs.declared.state.State.TheVariants as State
-use Rattle.ds_replay.specs.Built.{Stage, Start, first_unbuilt, goes_on, next_stage, unbuilt_from}
-use Rattle.ds_replay.specs.Causes.{CauseTurn, first_told, AllCaused}
+use Rattle.ds_replay.specs.Built.{Stage, first_unbuilt, goes_on, next_stage, unbuilt_from}
+use Rattle.ds_replay.specs.Causes.{CauseTurn, first_told}
 use Rattle.ds_replay.specs.Comes.{AllMayCome, EntryMayCome}
 use Rattle.ds_replay.specs.Stages.{IsWithin, StandsAt, stage_of}
-use Rattle.ds_replay.specs.Taken.{LineTaken, Taken, listed}
+use Rattle.ds_replay.specs.Taken.{Taken, listed}
 use Rattle.ds_replay.proofs.Readiness.{lt_of}
 
 -- a line after others

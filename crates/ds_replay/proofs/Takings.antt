@@ -3,12 +3,11 @@ use Rattle.std.proofs.Common.{◌≡◌, ℕ, ◌+◌, ◌<◌, ◌≤◌, Bool,
 use Rattle.std.specs.List.{list_all}
 use Rattle.std.proofs.lemmas.Bool.Decides.{nat_tests}
 use Rattle.ds_base.proofs.KeyOrder.{and_first, and_second}
-use Rattle.ds_base.specs.Order.{key_lt, bound}
 use Rattle.ds_base.specs.declared.key.Key.{Key}
 use Rattle.ds_base.specs.declared.value.Stamp.{Stamp}
 use Rattle.ds_base.specs.declared.value.Value.{Value}
 use Rattle.ds_kind.specs.declared.batch.Batch.{Batch}
-use Rattle.ds_cell.specs.Store.{Asker, Store}
+use Rattle.ds_cell.specs.Store.{Store}
 use Rattle.ds_rule.specs.declared.cluster.Cluster.{Cluster}
 use Rattle.ds_rule.specs.declared.event.Block.{Block}
 use Rattle.ds_rule.specs.declared.event.Event.TheVariants.{Write}
@@ -28,9 +27,8 @@ use Rattle.ds_send.specs.declared.txn.Txn.{Txn}
 use Rattle.ds_sim.specs.declared.sim.Sim.{Sim}
 use Rattle.ds_sim.specs.State.{state_of}
 use Rattle.ds_replay.specs.declared.state.State.{State}
-use Rattle.ds_replay.specs.declared.state.State.TheVariants as State
 use Rattle.ds_replay.specs.Asked.{AskedBy}
-use Rattle.ds_replay.specs.Built.{Stage, Start, Closed, Open, next_stage, is_cluster, is_sent, may_stand_by}
+use Rattle.ds_replay.specs.Built.{Stage, Start, Closed, Open, next_stage, is_cluster, is_sent}
 use Rattle.ds_replay.specs.Stages.{StandsAt}
 use Rattle.ds_replay.specs.Taken.{LineTaken, Taken}
 use Rattle.ds_replay.proofs.Batches.{asked-closed, asked-open}

@@ -1,5 +1,5 @@
 -- The scripts that are built so far.
-use Rattle.std.specs.Prelude.{◌≡◌, ℕ, Bool, true, false, ◌&&◌, List, [], ◌∷◌, length, nat_le, nat_lt, Option, Some, None, is_some, if◌then◌else◌, ◌==◌, refl}
+use Rattle.std.specs.Prelude.{◌≡◌, ℕ, Bool, true, ◌&&◌, List, [], ◌∷◌, length, nat_le, nat_lt, Option, Some, None, is_some, if◌then◌else◌, ◌==◌, refl}
 use Rattle.std.specs.List.{list_all}
 use Rattle.ds_base.specs.Order.{key_lt, bound}
 use Rattle.ds_base.specs.declared.value.Stamp.{Stamp}
@@ -9,7 +9,6 @@ use Rattle.ds_rule.specs.declared.event.Block.{Block}
 use Rattle.ds_rule.specs.declared.cluster.ClusterRange.{ClusterRange}
 use Rattle.ds_rule.specs.Begin.{is_leased, tiles}
 use Rattle.ds_script.specs.declared.line.Line.{Line}
-use Rattle.ds_script.specs.declared.line.Line.TheVariants as Line
 use Rattle.ds_script.specs.declared.line.Numbered.{Numbered}
 use Rattle.ds_send.specs.Batch as Sends
 

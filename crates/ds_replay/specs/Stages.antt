@@ -1,6 +1,6 @@
 -- How far a replay has come.
-use Rattle.std.specs.Prelude.{◌≡◌, ℕ, ◌≤◌, List, Option, Some, None}
-use Rattle.ds_cell.specs.Store.{Asker, Store, StoreTxn, Pending, empty_store}
+use Rattle.std.specs.Prelude.{◌≡◌, ℕ, ◌≤◌, Option, Some, None}
+use Rattle.ds_cell.specs.Store.{Store, StoreTxn, Pending, empty_store}
 use Rattle.ds_rule.specs.StandsFor.{StandsFor, IsKnown}
 use Rattle.ds_rule.specs.Steady.{Steady}
 use Rattle.ds_script.specs.Journals.{Played, first_played}
@@ -9,7 +9,6 @@ use Rattle.ds_send.specs.Asked.{asker_of}
 use Rattle.ds_sim.specs.declared.sim.Sim.{Sim}
 use Rattle.ds_sim.specs.State.{state_of}
 use Rattle.ds_replay.specs.declared.state.State.{State}
-use Rattle.ds_replay.specs.declared.state.State.TheVariants as State
 use Rattle.ds_replay.specs.Built.{Stage, Start, Closed, Open}
 
 abbrev pub stage_of : State → Stage

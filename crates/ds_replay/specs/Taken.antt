@@ -1,11 +1,11 @@
 -- What the replay of one line makes.
-use Rattle.std.specs.Prelude.{◌≡◌, ℕ, ◌+◌, List, [], ◌∷◌, ◌++◌, Option, Some, None}
+use Rattle.std.specs.Prelude.{◌≡◌, ℕ, List, [], ◌∷◌, ◌++◌, Option, Some, None}
 use Rattle.ds_cell.specs.Store.{Store}
 use Rattle.ds_rule.specs.declared.journal.Entry.{Entry}
 use Rattle.ds_script.specs.declared.line.Line.{Line}
 use Rattle.ds_script.specs.declared.line.Numbered.{Numbered}
-use Rattle.ds_script.specs.Runs.{has_entry, line_of, TakesEntry}
-use Rattle.ds_script.specs.Journals.{Asks, Played, JournalTurn, GatherTurn}
+use Rattle.ds_script.specs.Runs.{has_entry, TakesEntry}
+use Rattle.ds_script.specs.Journals.{Played, JournalTurn, GatherTurn}
 use Rattle.ds_script.specs.PlainRuns.{PlainTurn}
 use Rattle.ds_replay.specs.declared.state.State.{State}
 use Rattle.ds_replay.specs.Causes.{EntryCause}

@@ -25,9 +25,7 @@ enum Form {
 fn are_leased(ranges: &[ClusterRange]) -> bool
     ensures { result ≡ list_all is_leased ranges.now }
 {
-    ranges
-        .iter()
-        .all(|range| range.nodes.contains(range.lease))
+    ranges.iter().all(|range| range.nodes.contains(range.lease))
 }
 
 fn is_cluster(ranges: &[ClusterRange]) -> bool

@@ -1,4 +1,3 @@
-use Rattle.std.proofs.Common.{refl}
 use Rattle.ds_replay.proofs.Takings.{asked-closed-taken, begin-taken, count-closed, more, one-more, write-closed-taken}
 use Rattle.ds_replay.proofs.lines.from_closed.Goals as goal
 

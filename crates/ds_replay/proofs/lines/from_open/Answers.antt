@@ -1,4 +1,3 @@
-use Rattle.std.proofs.Common.{refl}
 use Rattle.ds_replay.proofs.Takings.{asked-open-taken, close-taken, count-open, more, one-more, write-open-taken}
 use Rattle.ds_replay.proofs.lines.from_open.Goals as goal
 
