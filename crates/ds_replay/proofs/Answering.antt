@@ -1,18 +1,12 @@
 -- What one batch of a replay came to.
-use Rattle.std.proofs.Common.{◌≡◌, ℕ, ◌+◌, ◌<◌, ◌≤◌, Bool, true, false, cond, ◌&&◌, List, [], ◌∷◌, ◌++◌, map, length, filter, Option, Some, None, is_some, is_none, inl, inr, refl, sym, ap, ◌∙◌, subst, arith}
-use Rattle.std.specs.List.{list_all}
-use Rattle.std.specs.Option.{option_map}
-use Rattle.ds_base.specs.declared.value.Stamp.{Stamp}
+use Rattle.std.proofs.Common.{◌≡◌, ℕ, ◌<◌, true, false, List, [], ◌∷◌, ◌++◌, map, Option, Some, None, refl, sym, ap, ◌∙◌, subst}
 use Rattle.ds_base.specs.declared.value.TxnNo.{TxnNo}
 use Rattle.ds_desc.specs.Counts.{Rose}
 use Rattle.ds_kind.specs.declared.batch.Batch.{Batch}
 use Rattle.ds_kind.specs.declared.illegal.Illegal.{Illegal}
-use Rattle.ds_kind.specs.declared.reply.Failure.TheVariants as Failure
-use Rattle.ds_legal.specs.Legal.{IsLegal}
 use Rattle.ds_legal.specs.Rules.{first_illegal}
-use Rattle.ds_cell.specs.Store.{Asker, Store, StoreTxn, Fate, Pending}
+use Rattle.ds_cell.specs.Store.{Store, StoreTxn, Pending}
 use Rattle.ds_rule.specs.declared.answer.Outcome.{Outcome}
-use Rattle.ds_rule.specs.declared.answer.Outcome.TheVariants as Outcome
 use Rattle.ds_rule.specs.declared.journal.JournalStep.{JournalStep}
 use Rattle.ds_rule.specs.Asking.{Asking, asking}
 use Rattle.ds_rule.specs.Blocks.{BlockPlays}
@@ -20,31 +14,29 @@ use Rattle.ds_rule.specs.Cause.{CauseOf, WholeCauseOf}
 use Rattle.ds_rule.specs.Clauses.{Stands}
 use Rattle.ds_rule.specs.Gathered.{Gathered}
 use Rattle.ds_rule.specs.Journal.{Happening, Did as Stepped, Runs, Accepted, accepted}
-use Rattle.ds_rule.specs.Law.{Did, DidWhole, IsGiven, IsPlainFor, IsQuiet, LeadsTo, MayAct, IsReading}
+use Rattle.ds_rule.specs.Law.{Did, IsGiven, IsPlainFor, IsQuiet, LeadsTo, MayAct}
 use Rattle.ds_rule.specs.Path.{Path, IsOf, LosesOnly}
 use Rattle.ds_rule.specs.Pieces.{Each}
 use Rattle.ds_rule.specs.Plain.{is_pending}
-use Rattle.ds_rule.specs.StandsFor.{StandsFor, Ready}
-use Rattle.ds_rule.proofs.NeverDoubtful.{NoMove, never-ended}
+use Rattle.ds_rule.specs.StandsFor.{Ready}
+use Rattle.ds_rule.specs.Steady.{Steady}
 use Rattle.ds_rule.proofs.Recorded.{Pends}
+use Rattle.ds_rule.proofs.Steadiness.{quiet-steady}
 use Rattle.ds_rule.proofs.WholeGathered.{whole-gathered}
 use Rattle.ds_script.specs.Journals.{Asks, BatchGathers, InOnePiece, accepted_in, sees_one_state}
-use Rattle.ds_send.specs.Sent.{DidOnce, IsWholeSendable, PlainIf, WasQuiet, is_whole}
-use Rattle.ds_replay.specs.Asked.{begun_block}
+use Rattle.ds_send.specs.Sent.{DidOnce, IsWholeSendable, PlainIf, is_whole}
 use Rattle.ds_replay.specs.Causes.{BatchCause, SentCause}
-use Rattle.ds_replay.proofs.Blocks.{never-rose, quiet-steps, steps-play, steps-made, steps-still, steps-accepted, one-served}
-
--- its answer is no doubt
-abbrev pub IsSure : Outcome → Type 0
-IsSure (Outcome.Ambiguous lost) = ⊥
-IsSure o = Unit {0}
+use Rattle.ds_replay.specs.Comes.{MayCome}
+use Rattle.ds_replay.proofs.Blocks.{never-rose, quiet-steps, steps-play, steps-accepted, one-served}
+use Rattle.ds_replay.proofs.Coming.{Undisturbed, comes-each, comes-whole}
 
 -- what a batch's block was, for a store
 pub record Came (budget : ℕ) (a mid : Stands) (asks : Asks) (p : Store) (b : Batch) (q : Asking) (steps : List JournalStep) (o : Outcome) : Type 0 where
   pub lead : LeadsTo a mid p b o
   pub plays : BlockPlays q 1 [] a.world steps mid.world
   pub gathers : BatchGathers asks b steps o
-  pub sure : b.at ≡ None → IsSure o
+  pub comes : MayCome o
+  pub steady : Steady mid.world
   pub cause : BatchCause budget (first_illegal b) asks p b steps o
 
 gather-each : (budget : ℕ) (asks : Asks) (b : Batch) (q : Asking) (hs : List Happening) (got : List Accepted) (steps : List JournalStep) (o : Outcome) → asking asks.asker b ≡ Some q → sees_one_state b ≡ false → got ≡ accepted_in steps → CauseOf budget q hs got o → BatchGathers asks b steps o
@@ -102,32 +94,25 @@ block-plays q x y got steps none still bl =
 block-got : (q : Asking) (x y : Stands) (got : List Accepted) (steps : List JournalStep) → Block q x y got steps → got ≡ accepted_in steps
 block-got q x y got steps bl = sym bl.path.gives ∙ ap accepted bl.added ∙ steps-accepted steps
 
-sure-each : (budget : ℕ) (b : Batch) (q : Asking) (x y : Stands) (p : Store) (o : Outcome) (did : Did budget q x y o) → IsReading b q → Each NoMove did.path.added → Ready x p b q → Pends q.head.txn p.txn → IsSure o
-sure-each budget b q x y p (Outcome.Ambiguous n) did reading still ready pend = never-ended b q x y p Failure.Committed did.got reading did.path still ready pend did.cause
-sure-each budget b q x y p (Outcome.Ok rs) did reading still ready pend = tt
-sure-each budget b q x y p (Outcome.Illegal i) did reading still ready pend = tt
-sure-each budget b q x y p (Outcome.MustRollBack n) did reading still ready pend = tt
-sure-each budget b q x y p (Outcome.TxnOver s) did reading still ready pend = tt
-sure-each budget b q x y p (Outcome.OpRequiresTxn d) did reading still ready pend = tt
-sure-each budget b q x y p (Outcome.NotOnePhase d) did reading still ready pend = tt
-sure-each budget b q x y p (Outcome.ConditionFailed i v) did reading still ready pend = tt
-sure-each budget b q x y p (Outcome.WriteTooOld i k s) did reading still ready pend = tt
-sure-each budget b q x y p (Outcome.NotInteger i) did reading still ready pend = tt
-sure-each budget b q x y p (Outcome.Overflow i) did reading still ready pend = tt
-sure-each budget b q x y p Outcome.TxnAborted did reading still ready pend = tt
-sure-each budget b q x y p (Outcome.RetryExhausted r l) did reading still ready pend = tt
-sure-each budget b q x y p Outcome.OutOfMemory did reading still ready pend = tt
+undisturbed : (b : Batch) (q : Asking) (x y : Stands) (p : Store) (got : List Accepted) (steps : List JournalStep) → x.lost ≡ 0 → y.lost ≡ 0 → Steady x.world → Ready x p b q → Pends q.head.txn p.txn → (bl : Block q x y got steps) → Undisturbed b q x y p got bl.path
+undisturbed b q x y p got steps none still steady ready pend bl =
+    record { quiet = subst (Each IsQuiet) (sym bl.added) (block-quiet q x y got steps none still bl); steady = steady; ready = ready; pends = pend }
+
+block-steady : (q : Asking) (x y : Stands) (got : List Accepted) (steps : List JournalStep) → x.lost ≡ 0 → y.lost ≡ 0 → Steady x.world → Block q x y got steps → Steady y.world
+block-steady q x y got steps none still steady bl =
+    quiet-steady (map Stepped steps) x.world y.world (block-quiet q x y got steps none still bl) (subst (λ hs. Runs x.world hs y.world) bl.added bl.path.runs) steady
 
 -- sent request by request
-pub came-each : (budget : ℕ) (asks : Asks) (b : Batch) (q : Asking) (x y : Stands) (p : Store) (steps : List JournalStep) (o : Outcome) → x.past ≡ [] → x.lost ≡ 0 → y.lost ≡ 0 → y.past ≡ map Stepped steps → first_illegal b ≡ None → asking asks.asker b ≡ Some q → is_whole b ≡ false → IsReading b q → Ready x p b q → Pends q.head.txn p.txn → Did budget q x y o → IsPlainFor x y b q o → Came budget x y asks p b q steps o
-came-each budget asks b q x y p steps o start none still past kept is apart reading ready pend did plain =
+pub came-each : (budget : ℕ) (asks : Asks) (b : Batch) (q : Asking) (x y : Stands) (p : Store) (steps : List JournalStep) (o : Outcome) → x.past ≡ [] → x.lost ≡ 0 → y.lost ≡ 0 → y.past ≡ map Stepped steps → first_illegal b ≡ None → asking asks.asker b ≡ Some q → is_whole b ≡ false → 0 < budget → IsGiven o → Steady x.world → Ready x p b q → Pends q.head.txn p.txn → Did budget q x y o → IsPlainFor x y b q o → Came budget x y asks p b q steps o
+came-each budget asks b q x y p steps o start none still past kept is apart tries given steady ready pend did plain =
     let added = sym (did.path.grown ∙ ap (λ hs. hs ++ did.path.added) start) ∙ past in
     let bl : Block q x y did.got steps = record { path = did.path; added = added } in
     record {
       lead = plain p ready;
       plays = block-plays q x y did.got steps none still bl;
       gathers = gather-each budget asks b q did.path.added did.got steps o is apart (block-got q x y did.got steps bl) did.cause;
-      sure = λ at. sure-each budget b q x y p o did reading (subst (Each NoMove) (sym added) (steps-still steps)) ready pend;
+      comes = comes-each budget b q x y p o did tries given (undisturbed b q x y p did.got steps none still steady ready pend bl);
+      steady = block-steady q x y did.got steps none still steady bl;
       cause = subst (λ i. BatchCause budget i asks p b steps o) (sym kept) (
         q,
         is,
@@ -136,13 +121,9 @@ came-each budget asks b q x y p steps o start none still past kept is apart read
       );
     }
 
-no-stamp : (at : Option Stamp) (t : Bool) → (is_some at && t) ≡ true → at ≡ None → ⊥
-no-stamp None t h e = cc
-no-stamp (Some s) t h e = cc
-
 -- sent in one piece
-pub came-whole : (budget : ℕ) (asks : Asks) (b : Batch) (q : Asking) (x y : Stands) (p : Store) (steps : List JournalStep) (o : Outcome) → x.past ≡ [] → x.lost ≡ 0 → y.lost ≡ 0 → y.past ≡ map Stepped steps → first_illegal b ≡ None → asking asks.asker b ≡ Some q → is_whole b ≡ true → IsWholeSendable q → Ready x p b q → MayAct p q → DidOnce budget q x y o → PlainIf true x y b q o → Came budget x y asks p b q steps o
-came-whole budget asks b q x y p steps o start none still past kept is one send ready may once plain =
+pub came-whole : (budget : ℕ) (asks : Asks) (b : Batch) (q : Asking) (x y : Stands) (p : Store) (steps : List JournalStep) (o : Outcome) → x.past ≡ [] → x.lost ≡ 0 → y.lost ≡ 0 → y.past ≡ map Stepped steps → first_illegal b ≡ None → asking asks.asker b ≡ Some q → is_whole b ≡ true → IsWholeSendable q → 0 < budget → IsGiven o → Steady x.world → Ready x p b q → Pends q.head.txn p.txn → MayAct p q → DidOnce budget q x y o → PlainIf true x y b q o → Came budget x y asks p b q steps o
+came-whole budget asks b q x y p steps o start none still past kept is one send tries given steady ready pend may once plain =
     let did = once.did in
     let added = sym (did.path.grown ∙ ap (λ hs. hs ++ did.path.added) start) ∙ past in
     let bl : Block q x y did.got steps = record { path = did.path; added = added } in
@@ -152,7 +133,8 @@ came-whole budget asks b q x y p steps o start none still past kept is one send 
       lead = law.0;
       plays = block-plays q x y did.got steps none still bl;
       gathers = gather-whole budget asks b q x y did.got did.path steps o is one send (block-got q x y did.got steps bl) added did.cause;
-      sure = λ at. absurd (no-stamp b.at b.consistent one at);
+      comes = comes-whole budget b q x y p o did tries given (undisturbed b q x y p did.got steps none still steady ready pend bl);
+      steady = block-steady q x y did.got steps none still steady bl;
       cause = subst (λ i. BatchCause budget i asks p b steps o) (sym kept)
           (q, is, subst (λ w. SentCause w budget p q steps o) (sym one) (subst (λ hs. WholeCauseOf budget q hs o) added did.cause, law.1));
     }
@@ -162,14 +144,15 @@ nothing-past [] h = refl
 nothing-past (s ∷ ss) h = cc
 
 -- a batch that breaks a rule
-pub came-illegal : (budget : ℕ) (asks : Asks) (b : Batch) (q : Asking) (x y : Stands) (p : Store) (steps : List JournalStep) (i : Illegal) (o : Outcome) → first_illegal b ≡ Some i → x.past ≡ [] → y.past ≡ map Stepped steps → y ≡ x → o ≡ Outcome.Illegal i → LeadsTo x y p b o → Came budget x y asks p b q steps o
-came-illegal budget asks b q x y p steps i o broken start past same is lead =
+pub came-illegal : (budget : ℕ) (asks : Asks) (b : Batch) (q : Asking) (x y : Stands) (p : Store) (steps : List JournalStep) (i : Illegal) (o : Outcome) → first_illegal b ≡ Some i → x.past ≡ [] → y.past ≡ map Stepped steps → y ≡ x → o ≡ Outcome.Illegal i → Steady x.world → LeadsTo x y p b o → Came budget x y asks p b q steps o
+came-illegal budget asks b q x y p steps i o broken start past same is steady lead =
     let none = nothing-past steps (sym start ∙ sym (ap (λ z. z.past) same) ∙ past) in
     record {
       lead = lead;
       plays = subst (λ ss. BlockPlays q 1 [] x.world ss y.world) (sym none) (ap (λ z. z.world) same);
       gathers = subst (λ o. BatchGathers asks b steps o) (sym is) tt;
-      sure = λ at. subst IsSure (sym is) tt;
+      comes = subst MayCome (sym is) tt;
+      steady = subst Steady (sym (ap (λ z. z.world) same)) steady;
       cause = subst (λ j. BatchCause budget j asks p b steps o) (sym broken) (is, none);
     }
 

@@ -1,8 +1,7 @@
 -- The lines of batches.
-use Rattle.std.proofs.Common.{◌≡◌, ℕ, ◌+◌, ◌<◌, ◌≤◌, Bool, true, false, ◌&&◌, ◌||◌, List, [], ◌∷◌, ◌++◌, map, Option, Some, None, is_some, is_none, inl, inr, refl, sym, ap, ◌∙◌, subst, nat_lt, arith}
+use Rattle.std.proofs.Common.{◌≡◌, ℕ, ◌<◌, Bool, true, ◌&&◌, List, Option, Some, None, is_some, is_none, inl, inr, refl, sym, ap, ◌∙◌, subst, nat_lt}
 use Rattle.std.specs.List.{list_all}
 use Rattle.std.specs.Option.{option_map}
-use Rattle.std.proofs.lemmas.Bool.Decides.{nat_tests}
 use Rattle.ds_base.proofs.KeyOrder.{and_first, and_second}
 use Rattle.ds_base.specs.declared.value.Stamp.{Stamp}
 use Rattle.ds_kind.specs.declared.batch.Batch.{Batch}
@@ -13,17 +12,15 @@ use Rattle.ds_rule.specs.declared.answer.Outcome.{Outcome}
 use Rattle.ds_rule.specs.declared.event.Block.{Block}
 use Rattle.ds_rule.specs.declared.journal.Entry.{Entry}
 use Rattle.ds_rule.specs.declared.journal.Entry.TheVariants as entries
-use Rattle.ds_rule.specs.declared.journal.JournalStep.{JournalStep}
 use Rattle.ds_rule.specs.Asking.{Asking, asking, asking_by}
-use Rattle.ds_rule.specs.Clauses.{Stands}
-use Rattle.ds_rule.specs.Law.{IsProperRead, MayAct}
+use Rattle.ds_rule.specs.Law.{IsProperRead}
 use Rattle.ds_rule.specs.Pieces.{Each}
 use Rattle.ds_rule.specs.Plain.{Answered, asker_after, count_numbered, if_of_txn}
 use Rattle.ds_rule.specs.StandsFor.{StandsFor, Ready}
+use Rattle.ds_rule.specs.Steady.{Steady}
 use Rattle.ds_rule.proofs.Recorded.{Pends}
-use Rattle.ds_script.specs.declared.line.Line.{Line}
 use Rattle.ds_script.specs.declared.line.Line.TheVariants as lines
-use Rattle.ds_script.specs.Journals.{Asks, Played, answered_asks}
+use Rattle.ds_script.specs.Journals.{Played, answered_asks}
 use Rattle.ds_send.specs.Asked.{asker_of}
 use Rattle.ds_send.specs.Batch as Sends
 use Rattle.ds_send.specs.Sent.{IsOpenFor, is_whole}
@@ -32,13 +29,13 @@ use Rattle.ds_send.proofs.Readings.{as-items, reads-proper, all-plain}
 use Rattle.ds_sim.specs.declared.sim.Sim.{Sim}
 use Rattle.ds_sim.specs.State.{state_of}
 use Rattle.ds_replay.specs.declared.state.State.{State}
-use Rattle.ds_replay.specs.declared.state.State.TheVariants as State
 use Rattle.ds_replay.specs.Asked.{AskedBy, begun_block}
 use Rattle.ds_replay.specs.Built.{is_sent, may_stand_by}
-use Rattle.ds_replay.specs.Stages.{IsIn, IsOpenIn, HasOpen, StandsAt}
+use Rattle.ds_replay.specs.Comes.{MayCome}
+use Rattle.ds_replay.specs.Stages.{IsIn, HasOpen, StandsAt}
 use Rattle.ds_replay.specs.Taken.{LineTaken}
-use Rattle.ds_replay.proofs.Answering.{Came, IsSure, pends-any}
-use Rattle.ds_replay.proofs.AskedLine.{Owes, Turned, came, turned}
+use Rattle.ds_replay.proofs.Answering.{pends-any}
+use Rattle.ds_replay.proofs.AskedLine.{Owes, came, turned}
 use Rattle.ds_replay.proofs.Readiness.{lt_of, ready-alone, ready-open}
 use Rattle.ds_replay.proofs.Staying.{asker-stays, no-numbers, same-begun, same-txn, still-open}
 
@@ -62,17 +59,18 @@ owes-closed sim begun s p b at is here =
       asked = subst (λ x. IsOpenFor x None) (sym is) tt;
       none_lost = refl;
       stands = st;
+      steady = subst Steady here.0.world here.0.steady;
       ready = λ q asks. ready-alone (state_of sim) p b q at st here.2 is asks;
       may = λ legal whole q asks. inl here.2;
       pends = λ q asks. subst (Pends q.head.txn) (sym here.2) (alone-asker b at q is asks);
     }
 
-pub asked-closed : (sim new : Sim) (begun budget : ℕ) (b : Batch) (block : Block) (n : ℕ) (log after : List Entry) (s : Played) (p : Store) (by : AskedBy (state_of sim) (state_of new) budget None b n log after) → (is_some b.at && is_sent b block) ≡ true → StandsAt (State.Closed sim begun) s p → LineTaken budget (State.Closed sim begun) (State.Closed new begun) (lines.Batch b block) (Some (entries.Batch n by.steps by.outcome)) s p
-asked-closed sim new begun budget b block n log after s p by fits here =
+pub asked-closed : (sim new : Sim) (begun budget : ℕ) (b : Batch) (block : Block) (n : ℕ) (log after : List Entry) (s : Played) (p : Store) (by : AskedBy (state_of sim) (state_of new) budget None b n log after) → 0 < budget → (is_some b.at && is_sent b block) ≡ true → StandsAt (State.Closed sim begun) s p → LineTaken budget (State.Closed sim begun) (State.Closed new begun) (lines.Batch b block) (Some (entries.Batch n by.steps by.outcome)) s p
+asked-closed sim new begun budget b block n log after s p by tries fits here =
     let at = some-of b.at (and_first (is_some b.at) _ fits) in
     let sent = and_second (is_some b.at) _ fits in
     let owes = owes-closed sim begun s p b at.0 at.1 here in
-    let c = came (state_of sim) (state_of new) budget None p b s.asks n log after by (and_first (Sends.is_built b) _ sent) owes refl in
+    let c = came (state_of sim) (state_of new) budget None p b s.asks n log after by tries (and_first (Sends.is_built b) _ sent) owes refl in
     let tn = turned budget s (state_of sim) by.mid None p b block n c.0 by.steps by.outcome here.0.world here.1 sent c.1 by.past c.2 in
     record {
       played = record { world = by.mid.world; asks = answered_asks b by.outcome s.asks };
@@ -81,10 +79,12 @@ asked-closed sim new begun budget b block n log after s p by fits here =
       gathers = tn.gathers;
       plain = tn.plain;
       cause = c.2.cause;
+      comes = (c.2.comes, tt);
       stands = (
         record {
           world = sym (ap (λ z. z.world) by.last);
           stands = tn.stands;
+          steady = c.2.steady;
           played = here.0.played;
           stored = same-begun b by.outcome p tn.next tn.answered ∙ here.0.stored;
         },
@@ -121,6 +121,7 @@ owes-open (Some t) sim txn begun s p b here may asked at who h =
       asked = asked;
       none_lost = refl;
       stands = st;
+      steady = subst Steady at.world at.steady;
       ready = λ q asks. subst (λ x. Ready (begun_block (state_of sim) (Some x) b) p b q) h.asker
           (ready-open (state_of sim) p b q t st here h.known (below-of b.at t.asker.stamp b.requests (subst (λ x. may_stand_by x.stamp b.at b.requests ≡ true) (sym h.asker) may))
           (subst (λ x. asking (Some x) b ≡ Some q) (sym h.asker) asks));
@@ -135,17 +136,17 @@ asker-open : (at : Option Stamp) (b : Batch) (o : Outcome) (x : Option Asker) (t
 asker-open (Some s) b o x t is built h = h
 asker-open None b o x t is built h = ap (option_map (asker_after b o)) h ∙ ap Some (asker-stays b o t (unnumbered b is built))
 
-open-after : (at : Option Stamp) (txn : Txn) (b : Batch) (o : Outcome) (p next : Store) → b.at ≡ at → Sends.is_built b ≡ true → (b.at ≡ None → IsSure o) → HasOpen txn p.txn → Answered p b o next → HasOpen txn next.txn
-open-after None txn b o p next is built sure h ans = still-open txn b o p next (sure is) is (unnumbered b is built) h ans
-open-after (Some s) txn b o p next is built sure h ans = subst (HasOpen txn) (sym (same-txn b o s p next is ans)) h
+open-after : (at : Option Stamp) (txn : Txn) (b : Batch) (o : Outcome) (p next : Store) → b.at ≡ at → Sends.is_built b ≡ true → MayCome o → HasOpen txn p.txn → Answered p b o next → HasOpen txn next.txn
+open-after None txn b o p next is built comes h ans = still-open txn b o p next comes is (unnumbered b is built) h ans
+open-after (Some s) txn b o p next is built comes h ans = subst (HasOpen txn) (sym (same-txn b o s p next is ans)) h
 
-pub asked-open : (sim new : Sim) (txn : Txn) (begun budget : ℕ) (b : Batch) (block : Block) (n : ℕ) (log after : List Entry) (s : Played) (p : Store) (by : AskedBy (state_of sim) (state_of new) budget (Some (asker_of txn)) b n log after) → (may_stand_by txn.stamp.0 b.at b.requests && is_sent b block) ≡ true → IsOpenFor b.at (Some (asker_of txn)) → StandsAt (State.Open sim txn begun) s p → LineTaken budget (State.Open sim txn begun) (State.Open new txn begun) (lines.Batch b block) (Some (entries.Batch n by.steps by.outcome)) s p
-asked-open sim new txn begun budget b block n log after s p by fits asked here =
+pub asked-open : (sim new : Sim) (txn : Txn) (begun budget : ℕ) (b : Batch) (block : Block) (n : ℕ) (log after : List Entry) (s : Played) (p : Store) (by : AskedBy (state_of sim) (state_of new) budget (Some (asker_of txn)) b n log after) → 0 < budget → (may_stand_by txn.stamp.0 b.at b.requests && is_sent b block) ≡ true → IsOpenFor b.at (Some (asker_of txn)) → StandsAt (State.Open sim txn begun) s p → LineTaken budget (State.Open sim txn begun) (State.Open new txn begun) (lines.Batch b block) (Some (entries.Batch n by.steps by.outcome)) s p
+asked-open sim new txn begun budget b block n log after s p by tries fits asked here =
     let may = and_first (may_stand_by txn.stamp.0 b.at b.requests) _ fits in
     let sent = and_second (may_stand_by txn.stamp.0 b.at b.requests) _ fits in
     let built = and_first (Sends.is_built b) _ sent in
     let owes = owes-open p.txn sim txn begun s p b refl may asked here.0 here.1 here.2 in
-    let c = came (state_of sim) (state_of new) budget (Some (asker_of txn)) p b s.asks n log after by built owes refl in
+    let c = came (state_of sim) (state_of new) budget (Some (asker_of txn)) p b s.asks n log after by tries built owes refl in
     let tn = turned budget s (state_of sim) by.mid (Some (asker_of txn)) p b block n c.0 by.steps by.outcome here.0.world here.1 sent c.1 by.past c.2 in
     record {
       played = record { world = by.mid.world; asks = answered_asks b by.outcome s.asks };
@@ -154,14 +155,16 @@ asked-open sim new txn begun budget b block n log after s p by fits asked here =
       gathers = tn.gathers;
       plain = tn.plain;
       cause = c.2.cause;
+      comes = (c.2.comes, tt);
       stands = (
         record {
           world = sym (ap (λ z. z.world) by.last);
           stands = tn.stands;
+          steady = c.2.steady;
           played = here.0.played;
           stored = same-begun b by.outcome p tn.next tn.answered ∙ here.0.stored;
         },
         asker-open b.at b by.outcome s.asks.asker (asker_of txn) refl built here.1,
-        open-after b.at txn b by.outcome p tn.next refl built c.2.sure here.2 tn.answered,
+        open-after b.at txn b by.outcome p tn.next refl built c.2.comes here.2 tn.answered,
       );
     }

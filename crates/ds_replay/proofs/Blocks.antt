@@ -1,5 +1,5 @@
 -- The block of a batch, read off what its sender did.
-use Rattle.std.proofs.Common.{◌≡◌, ℕ, ◌+◌, ◌<◌, ◌≤◌, ◌-◌, ◌^◌, Bool, true, false, List, [], ◌∷◌, ◌++◌, map, inl, inr, refl, sym, ap, ◌∙◌, subst, arith}
+use Rattle.std.proofs.Common.{◌≡◌, ℕ, ◌+◌, List, [], ◌∷◌, ◌++◌, map, inl, inr, refl, sym, ap, ◌∙◌, arith}
 use Rattle.ds_desc.specs.Counts.{Rose}
 use Rattle.ds_desc.specs.declared.meta.Looked.TheVariants as Looked
 use Rattle.ds_kind.specs.declared.reply.Reply.{Reply}
@@ -13,11 +13,10 @@ use Rattle.ds_rule.specs.Cause.{IsIdle, LastServes}
 use Rattle.ds_rule.specs.Clauses.{IsLost}
 use Rattle.ds_rule.specs.Journal.{Happening, Moved, Did, Does, Runs, accepted, accepted_by}
 use Rattle.ds_rule.specs.Law.{IsQuiet}
-use Rattle.ds_rule.specs.Path.{IsOf, IsStepOf, LosesOnly}
+use Rattle.ds_rule.specs.Path.{IsOf, LosesOnly}
 use Rattle.ds_rule.specs.Pieces.{Each}
 use Rattle.ds_rule.specs.StandsFor.{after_made}
 use Rattle.ds_rule.specs.World.{World}
-use Rattle.ds_rule.proofs.NeverDoubtful.{NoMove}
 use Rattle.ds_script.specs.Journals.{accepted_in, served_by, served_in}
 
 -- nothing is lost where no count rose
@@ -45,10 +44,6 @@ steps-play q n (s ∷ ss) w v of quiet r = (r.0, of.0, told w r.0 s quiet.0 r.1,
 pub steps-made : (steps : List JournalStep) (p : Store) → after_made (map Did steps) p ≡ p
 steps-made [] p = refl
 steps-made (s ∷ ss) p = steps-made ss p
-
-pub steps-still : (steps : List JournalStep) → Each NoMove (map Did steps)
-steps-still [] = tt
-steps-still (s ∷ ss) = (tt, steps-still ss)
 
 pub steps-accepted : (steps : List JournalStep) → accepted (map Did steps) ≡ accepted_in steps
 steps-accepted [] = refl

@@ -2,6 +2,7 @@ pub mod Answering
 pub mod AskedLine
 pub mod Batches
 pub mod Blocks
+pub mod Coming
 pub mod Counts
 pub mod OtherLines
 pub mod Readiness

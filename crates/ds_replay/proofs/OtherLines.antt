@@ -1,32 +1,28 @@
 -- The lines of a script but for batches.
-use Rattle.std.proofs.Common.{◌≡◌, ℕ, ◌+◌, ◌<◌, ◌≤◌, Bool, true, false, ◌&&◌, List, [], ◌∷◌, ◌++◌, Option, Some, None, refl, sym, ap, ◌∙◌, subst, nat_lt, arith}
-use Rattle.std.proofs.lemmas.Bool.Decides.{nat_tests}
+use Rattle.std.proofs.Common.{◌≡◌, ℕ, ◌+◌, ◌≤◌, true, false, ◌&&◌, List, [], ◌∷◌, ◌++◌, Option, Some, None, refl, sym, ap, ◌∙◌, subst, nat_lt, arith}
+use Rattle.std.specs.List.{list_all}
 use Rattle.ds_base.proofs.KeyOrder.{and_first, and_second}
 use Rattle.ds_base.specs.Order.{key_lt, bound}
 use Rattle.ds_base.specs.declared.key.Key.{Key}
 use Rattle.ds_base.specs.declared.value.Stamp.{Stamp}
-use Rattle.ds_base.specs.declared.value.TxnNo.{TxnNo}
 use Rattle.ds_base.specs.declared.value.Value.{Value}
-use Rattle.ds_kind.specs.declared.reply.TxnStatus.{TxnStatus}
-use Rattle.ds_cell.specs.Store.{Asker, Store, StoreTxn, Pending}
+use Rattle.ds_cell.specs.Store.{Store, StoreTxn}
 use Rattle.ds_rule.specs.declared.cluster.Cluster.{Cluster}
 use Rattle.ds_rule.specs.declared.event.Event.TheVariants.{Write}
 use Rattle.ds_rule.specs.declared.journal.Entry.{Entry}
 use Rattle.ds_rule.specs.declared.journal.Entry.TheVariants as entries
-use Rattle.ds_rule.specs.Begin.{first_world, tiles}
-use Rattle.ds_rule.specs.Clauses.{Stands}
+use Rattle.ds_rule.specs.Begin.{first_world, is_leased, tiles}
 use Rattle.ds_rule.specs.Close.{with_begin, closed, close_status, settle_cells}
 use Rattle.ds_rule.specs.Moves.{moved}
 use Rattle.ds_rule.specs.Plain.{after_event}
 use Rattle.ds_rule.specs.StandsFor.{StandsFor, open_stamp}
-use Rattle.ds_rule.specs.World.{World}
 use Rattle.ds_rule.proofs.Lifetime.{first-stands, begin-stands, close-stands, close-says}
 use Rattle.ds_rule.proofs.Standing.{stands-moved}
-use Rattle.ds_script.specs.declared.line.Line.{Line}
+use Rattle.ds_rule.proofs.Steadiness.{begin-steady, close-steady, first-steady, write-steady}
 use Rattle.ds_script.specs.declared.line.Line.TheVariants as lines
 use Rattle.ds_script.specs.declared.line.Numbered.{Numbered}
 use Rattle.ds_script.specs.Runs.{has_entry, TakesEntry}
-use Rattle.ds_script.specs.Journals.{Asks, Played, next_asker, first_played}
+use Rattle.ds_script.specs.Journals.{Played, next_asker}
 use Rattle.ds_script.specs.PlainRuns.{Closes, commit_stamp, new_txn, status_of, with_txn}
 use Rattle.ds_send.specs.Asked.{asker_of}
 use Rattle.ds_send.specs.declared.txn.Txn.{Txn}
@@ -34,9 +30,8 @@ use Rattle.ds_sim.specs.declared.sim.Sim.{Sim}
 use Rattle.ds_sim.specs.State.{state_of}
 use Rattle.ds_sim.proofs.Begins.{tiled}
 use Rattle.ds_replay.specs.declared.state.State.{State}
-use Rattle.ds_replay.specs.declared.state.State.TheVariants as State
-use Rattle.ds_replay.specs.Stages.{IsIn, IsOpenIn, HasOpen, StandsAt}
-use Rattle.ds_replay.specs.Taken.{LineTaken, Taken, listed}
+use Rattle.ds_replay.specs.Stages.{IsIn, HasOpen, StandsAt}
+use Rattle.ds_replay.specs.Taken.{LineTaken, Taken}
 use Rattle.ds_replay.proofs.Readiness.{lt_of}
 
 append-nil : (log : List Entry) → log ≡ log ++ []
@@ -57,18 +52,20 @@ one-entry old new l log after e takes logged line = record { entry = Some e; tak
 
 -- the cluster
 
-pub cluster-line : {budget : ℕ} (sim : Sim) (c : Cluster) (s : Played) (p : Store) → tiles c.ranges ≡ true → state_of sim ≡ record { world = first_world c.ranges; past = []; floor = 0; refused = 0; lost = 0; ahead = [] } → StandsAt State.Start s p → LineTaken budget State.Start (State.Closed sim 0) (lines.Cluster c) None s p
-cluster-line sim c s p tile is at = record {
+pub cluster-line : {budget : ℕ} (sim : Sim) (c : Cluster) (s : Played) (p : Store) → tiles c.ranges ≡ true → list_all is_leased c.ranges ≡ true → state_of sim ≡ record { world = first_world c.ranges; past = []; floor = 0; refused = 0; lost = 0; ahead = [] } → StandsAt State.Start s p → LineTaken budget State.Start (State.Closed sim 0) (lines.Cluster c) None s p
+cluster-line sim c s p tile leased is at = record {
   played = record { world = first_world c.ranges; asks = s.asks };
   next = p;
   journal = (refl, refl);
   gathers = (tt, refl);
   cause = tt;
+  comes = tt;
   plain = refl;
   stands = (
     record {
       world = sym (ap (λ z. z.world) is);
       stands = subst (StandsFor (first_world c.ranges)) (sym at.1) (first-stands c.ranges (tiled c.ranges tile));
+      steady = first-steady c.ranges leased;
       played = ap (λ z. z.asks.begun) at.0;
       stored = ap (λ z. z.begun) at.1;
     },
@@ -83,6 +80,7 @@ write-in : (sim new : Sim) (begun : ℕ) (s : Played) (p : Store) (k : Key) (t :
 write-in sim new begun s p k t v floor fits low is at = record {
   world = ap (λ w. moved w (Write k t v)) at.world ∙ sym (ap (λ z. z.world) is);
   stands = stands-moved s.world p (Write k t v) floor (lt_of floor t.0 (and_second (key_lt k bound) _ fits), and_first (key_lt k bound) _ fits) low at.stands;
+  steady = write-steady s.world k t v at.steady;
   played = at.played;
   stored = at.stored;
 }
@@ -94,6 +92,7 @@ write-closed sim new begun s p k t v fits is at = record {
   journal = (refl, refl);
   gathers = (tt, refl);
   cause = tt;
+  comes = tt;
   plain = refl;
   stands = (write-in sim new begun s p k t v 0 fits (subst (λ o. open_stamp o ≤ 0) (sym at.2) (omega arith)) is at.0, at.1, at.2);
 }
@@ -109,6 +108,7 @@ write-open sim new txn begun s p k t v fits is at = record {
   journal = (refl, refl);
   gathers = (tt, refl);
   cause = tt;
+  comes = tt;
   plain = refl;
   stands = (write-in sim new begun s p k t v txn.stamp.0 fits (open-low txn p.txn at.2) is at.0, at.1, at.2);
 }
@@ -126,11 +126,13 @@ begin-line sim new begun txn s p t k who is at =
       journal = (refl, refl);
       gathers = (tt, refl);
       cause = tt;
+      comes = tt;
       plain = refl;
       stands = (
         record {
           world = ap (λ a. with_begin a s.world) asked ∙ ap (with_begin (record { number = begun + 1; stamp = t.0; epoch = 0; last = 0 })) at.0.world ∙ sym (ap (λ z. z.world) is);
           stands = subst (λ a. StandsFor (with_begin a s.world) (with_txn t p)) stored (begin-stands s.world p (new_txn (p.begun + 1) t) at.2 refl refl refl at.0.stands);
+          steady = begin-steady s.world (next_asker t s.asks) at.0.steady;
           played = ap (λ n. n + 1) at.0.played;
           stored = ap (λ n. n + 1) at.0.stored;
         },
@@ -152,12 +154,14 @@ close-by (Some t) sim new txn begun s p n here is at h =
       journal = ((status, refl), refl);
       gathers = (tt, refl);
       cause = tt;
+      comes = (tt, tt);
       plain = subst (λ o. Closes o (close_status (state_of sim).world) p (record p { cells = settle_cells t.asker.number None p.cells; txn = None })) (sym here)
           (status ∙ says ∙ sym (ap status_of h.fate), ap (λ f. record p { cells = settle_cells t.asker.number (commit_stamp f t.asker.stamp) p.cells; txn = None }) (sym h.fate));
       stands = (
         record {
           world = ap closed at.world ∙ sym (ap (λ z. z.world) is);
           stands = close-stands s.world p t here h.fate h.known at.stands;
+          steady = close-steady s.world at.steady;
           played = at.played;
           stored = at.stored;
         },

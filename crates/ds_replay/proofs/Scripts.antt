@@ -4,6 +4,7 @@ use Rattle.std.proofs.lemmas.Bool.Decides.{nat_tests}
 use Rattle.ds_base.proofs.KeyOrder.{and_first, and_second}
 use Rattle.ds_cell.specs.Store.{Store, empty_store}
 use Rattle.ds_rule.specs.declared.journal.Entry.{Entry}
+use Rattle.ds_rule.proofs.Trips.{each-append}
 use Rattle.ds_script.specs.declared.line.Line.{Line}
 use Rattle.ds_script.specs.declared.line.Numbered.{Numbered}
 use Rattle.ds_script.specs.Journals.{Played, JournalTurn, GatherTurn, first_played, no_asks, LegalJournal, AllGathered}
@@ -11,11 +12,11 @@ use Rattle.ds_script.specs.PlainRuns.{PlainRun, PlainTurn}
 use Rattle.ds_script.specs.Rules.{keeps_rules, numbers_rise}
 use Rattle.ds_script.specs.Runs.{Plays, TakesEntry, has_entry}
 use Rattle.ds_replay.specs.declared.state.State.{State}
-use Rattle.ds_replay.specs.declared.state.State.TheVariants as State
-use Rattle.ds_replay.specs.Built.{Stage, Start, first_unbuilt, goes_on, next_stage, unbuilt_from}
-use Rattle.ds_replay.specs.Causes.{CauseTurn, first_told, AllCaused}
+use Rattle.ds_replay.specs.Built.{Stage, first_unbuilt, goes_on, next_stage, unbuilt_from}
+use Rattle.ds_replay.specs.Causes.{CauseTurn, first_told}
+use Rattle.ds_replay.specs.Comes.{AllMayCome, EntryMayCome}
 use Rattle.ds_replay.specs.Stages.{IsWithin, StandsAt, stage_of}
-use Rattle.ds_replay.specs.Taken.{LineTaken, Taken, listed}
+use Rattle.ds_replay.specs.Taken.{Taken, listed}
 use Rattle.ds_replay.proofs.Readiness.{lt_of}
 
 -- a line after others
@@ -41,6 +42,7 @@ pub record Replaying (budget : ℕ) (done ahead : List Numbered) (n : ℕ) (stat
   pub gathers : Plays GatherTurn no_asks done log played.asks
   pub plain : Plays PlainTurn empty_store done log store
   pub causes : Plays (CauseTurn budget) first_told done log (record { asks = played.asks; store = store })
+  pub comes : AllMayCome log
   pub stands : StandsAt state played store
   pub within : IsWithin state n
   pub built : unbuilt_from ahead (stage_of state) ≡ None
@@ -69,6 +71,7 @@ replay-first lines kept built = record {
   gathers = (refl, refl);
   plain = (refl, refl);
   causes = (refl, refl);
+  comes = tt;
   stands = (refl, refl);
   within = tt;
   built = built;
@@ -101,6 +104,7 @@ replay-more {budget = budget} done ahead n state new log after l r stage within 
       gathers = subst (λ es. Plays GatherTurn no_asks (done ++ l ∷ []) es t.played.asks) (sym taken.logged) (plays-more GatherTurn done no_asks r.played.asks t.played.asks log l taken.entry r.gathers taken.takes t.gathers);
       plain = subst (λ es. Plays PlainTurn empty_store (done ++ l ∷ []) es t.next) (sym taken.logged) (plays-more PlainTurn done empty_store r.store t.next log l taken.entry r.plain taken.takes t.plain);
       causes = subst (λ es. Plays (CauseTurn budget) first_told (done ++ l ∷ []) es (record { asks = t.played.asks; store = t.next })) (sym taken.logged) (plays-more (CauseTurn budget) done first_told (record { asks = r.played.asks; store = r.store }) (record { asks = t.played.asks; store = t.next }) log l taken.entry r.causes taken.takes (t.cause, t.gathers.1, t.plain));
+      comes = subst AllMayCome (sym taken.logged) (each-append EntryMayCome log (listed taken.entry) r.comes t.comes);
       stands = t.stands;
       within = within n r.within;
       built = subst (λ o. goes_on o l.number (unbuilt_from ahead) ≡ None) (sym stage) r.built;

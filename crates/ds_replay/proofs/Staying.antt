@@ -1,24 +1,21 @@
 -- The open transaction after an answer.
-use Rattle.std.proofs.Common.{◌≡◌, ℕ, ◌+◌, Bool, true, false, cond, ◌&&◌, ◌||◌, List, [], ◌∷◌, length, filter, Option, Some, None, refl, sym, ap, ◌∙◌, subst, arith}
+use Rattle.std.proofs.Common.{◌≡◌, ℕ, ◌+◌, Bool, true, false, cond, List, [], ◌∷◌, length, filter, Option, Some, None, refl, sym, ap, ◌∙◌, subst, arith}
 use Rattle.std.specs.List.{list_all}
 use Rattle.std.specs.Option.{option_map}
 use Rattle.ds_base.proofs.KeyOrder.{and_first, and_second}
 use Rattle.ds_base.specs.declared.value.Stamp.{Stamp}
 use Rattle.ds_kind.specs.Asks.{takes_number}
 use Rattle.ds_kind.specs.declared.batch.Batch.{Batch}
-use Rattle.ds_kind.specs.declared.reply.Reply.{Reply}
 use Rattle.ds_kind.specs.declared.request.Request.{Request}
 use Rattle.ds_kind.specs.declared.request.Request.TheVariants.{Get, Scan, ReverseScan, Put, ConditionalPut, InitPut, Increment, Delete, DeleteRange, EndTxn, QueryIntent, ResolveIntent, ResolveIntentRange, AdminSplit, AdminTransferLease}
-use Rattle.ds_cell.specs.Store.{Asker, Store, StoreTxn, Mode, Live, FailedSince, Unknown, OverWith, Pending}
+use Rattle.ds_cell.specs.Store.{Asker, Store, StoreTxn, Mode, Live, FailedSince, Unknown, OverWith}
 use Rattle.ds_rule.specs.declared.answer.Outcome.{Outcome}
-use Rattle.ds_rule.specs.declared.answer.Outcome.TheVariants as Outcome
 use Rattle.ds_rule.specs.Plain.{Answered, asker_after, count_numbered, counted_store, counted_txn, failed_mode, failed_store, failed_txn, if_of_txn, uses_numbers}
 use Rattle.ds_rule.specs.StandsFor.{IsKnown}
-use Rattle.ds_send.specs.Asked.{asker_of}
-use Rattle.ds_send.specs.Batch.{is_built, is_built_request, is_plain_read}
+use Rattle.ds_send.specs.Batch.{is_plain_read}
 use Rattle.ds_send.specs.declared.txn.Txn.{Txn}
-use Rattle.ds_replay.specs.Stages.{HasOpen, IsOpenIn}
-use Rattle.ds_replay.proofs.Answering.{IsSure}
+use Rattle.ds_replay.specs.Comes.{MayCome}
+use Rattle.ds_replay.specs.Stages.{HasOpen}
 
 -- reads take no numbers
 
@@ -80,7 +77,7 @@ failed-open : (txn : Txn) (b : Batch) (o : Outcome) (p : Store) → b.at ≡ Non
 failed-open txn b o p at none h =
     subst (λ x. HasOpen txn (if_of_txn x failed_txn (counted_store b o p).txn)) (sym at) (open-failed txn (counted_store b o p).txn (counted-open txn b o p at none h))
 
-pub still-open : (txn : Txn) (b : Batch) (o : Outcome) (p next : Store) → IsSure o → b.at ≡ None → count_numbered b.requests ≡ 0 → HasOpen txn p.txn → Answered p b o next → HasOpen txn next.txn
+pub still-open : (txn : Txn) (b : Batch) (o : Outcome) (p next : Store) → MayCome o → b.at ≡ None → count_numbered b.requests ≡ 0 → HasOpen txn p.txn → Answered p b o next → HasOpen txn next.txn
 still-open txn b (Outcome.Ambiguous n) p next sure at none h a = absurd sure
 still-open txn b Outcome.OutOfMemory p next sure at none h a = absurd a
 still-open txn b (Outcome.Ok rs) p next sure at none h a = subst (λ z. HasOpen txn z.txn) (sym a.next) (counted-open txn b (Outcome.Ok rs) p at none h)

@@ -1,18 +1,19 @@
 -- What the replay of each line makes.
-use Rattle.std.proofs.Common.{◌≡◌, ℕ, ◌+◌, ◌≤◌, Bool, true, false, ◌&&◌, List, [], ◌∷◌, ◌++◌, Option, Some, None, is_some, IsSome, if◌then◌else◌, refl, sym, ap, ◌∙◌, subst, arith}
-use Rattle.ds_base.proofs.KeyOrder.{and_first}
-use Rattle.ds_base.specs.Order.{key_lt, bound}
+use Rattle.std.proofs.Common.{◌≡◌, ℕ, ◌+◌, ◌<◌, ◌≤◌, Bool, true, false, ◌&&◌, List, [], ◌∷◌, ◌++◌, Option, Some, None, is_some, IsSome, if◌then◌else◌, length, nat_le, refl, sym, ap, ◌∙◌, subst, arith}
+use Rattle.std.specs.List.{list_all}
+use Rattle.std.proofs.lemmas.Bool.Decides.{nat_tests}
+use Rattle.ds_base.proofs.KeyOrder.{and_first, and_second}
 use Rattle.ds_base.specs.declared.key.Key.{Key}
 use Rattle.ds_base.specs.declared.value.Stamp.{Stamp}
 use Rattle.ds_base.specs.declared.value.Value.{Value}
 use Rattle.ds_kind.specs.declared.batch.Batch.{Batch}
-use Rattle.ds_cell.specs.Store.{Asker, Store}
+use Rattle.ds_cell.specs.Store.{Store}
 use Rattle.ds_rule.specs.declared.cluster.Cluster.{Cluster}
 use Rattle.ds_rule.specs.declared.event.Block.{Block}
 use Rattle.ds_rule.specs.declared.event.Event.TheVariants.{Write}
 use Rattle.ds_rule.specs.declared.journal.Entry.{Entry}
 use Rattle.ds_rule.specs.declared.journal.Entry.TheVariants as entries
-use Rattle.ds_rule.specs.Begin.{first_world, tiles}
+use Rattle.ds_rule.specs.Begin.{first_world, is_leased, tiles}
 use Rattle.ds_rule.specs.Close.{with_begin, closed, close_status}
 use Rattle.ds_rule.specs.Moves.{moved}
 use Rattle.ds_script.specs.declared.line.Line.{Line}
@@ -26,9 +27,8 @@ use Rattle.ds_send.specs.declared.txn.Txn.{Txn}
 use Rattle.ds_sim.specs.declared.sim.Sim.{Sim}
 use Rattle.ds_sim.specs.State.{state_of}
 use Rattle.ds_replay.specs.declared.state.State.{State}
-use Rattle.ds_replay.specs.declared.state.State.TheVariants as State
 use Rattle.ds_replay.specs.Asked.{AskedBy}
-use Rattle.ds_replay.specs.Built.{Stage, Start, Closed, Open, next_stage, is_cluster, is_sent, may_stand_by}
+use Rattle.ds_replay.specs.Built.{Stage, Start, Closed, Open, next_stage, is_cluster, is_sent}
 use Rattle.ds_replay.specs.Stages.{StandsAt}
 use Rattle.ds_replay.specs.Taken.{LineTaken, Taken}
 use Rattle.ds_replay.proofs.Batches.{asked-closed, asked-open}
@@ -50,10 +50,31 @@ spoken {budget = budget} old new l x log after e is takes logged line =
     one-entry old new l log after e (subst (λ y. TakesEntry (has_entry y) l.number (e ∷ []) (Some e) []) (sym is) takes) logged
     (λ s p at. subst (λ y. LineTaken budget old new y (Some e) s p) (sym is) (line s p at))
 
+-- what a cluster's line of a built form says
+pub record IsBegun (c : Cluster) (l : Numbered) : Type 0 where
+  pub tiled : tiles c.ranges ≡ true
+  pub few : length c.ranges ≤ 1024
+  pub leased : list_all is_leased c.ranges ≡ true
+  pub stage : Some Closed ≡ next_stage Start l.line
+
+le_of : (n m : ℕ) → nat_le n m ≡ true → n ≤ m
+le_of n m h = grind (arith, nat_tests)
+
+pub cluster-begun : (c : Cluster) (l : Numbered) → l.line ≡ lines.Cluster c → IsSome (next_stage Start l.line) → IsBegun c l
+cluster-begun c l is built =
+    let fits : is_cluster c.ranges ≡ true = some-if (is_cluster c.ranges) Closed (built-line Start l (lines.Cluster c) is built) in
+    let few = and_first (tiles c.ranges && nat_le (length c.ranges) 1024) _ fits in
+    record {
+      tiled = and_first (tiles c.ranges) _ few;
+      few = le_of (length c.ranges) 1024 (and_second (tiles c.ranges) _ few);
+      leased = and_second (tiles c.ranges && nat_le (length c.ranges) 1024) _ fits;
+      stage = sym (ap (next_stage Start) is ∙ ap (λ t. if t then Some Closed else None) fits);
+    }
+
 pub cluster-taken : {budget : ℕ} (sim : Sim) (c : Cluster) (l : Numbered) (log : List Entry) → l.line ≡ lines.Cluster c → IsSome (next_stage Start l.line) → state_of sim ≡ record { world = first_world c.ranges; past = []; floor = 0; refused = 0; lost = 0; ahead = [] } → Taken budget State.Start (State.Closed sim 0) l log log
 cluster-taken sim c l log is built made =
-    silent State.Start (State.Closed sim 0) l (lines.Cluster c) log is refl
-    (λ s p at. cluster-line sim c s p (and_first (tiles c.ranges) _ (some-if (is_cluster c.ranges) Closed (built-line Start l (lines.Cluster c) is built))) made at)
+    let begun = cluster-begun c l is built in
+    silent State.Start (State.Closed sim 0) l (lines.Cluster c) log is refl (λ s p at. cluster-line sim c s p begun.tiled begun.leased made at)
 
 pub write-closed-taken : {budget : ℕ} (sim new : Sim) (begun : ℕ) (k : Key) (t : Stamp) (v : Option Value) (l : Numbered) (log : List Entry) → l.line ≡ lines.Write k t v → IsSome (next_stage Closed l.line) → state_of new ≡ record (state_of sim) { world = moved (state_of sim).world (Write k t v) } → Taken budget (State.Closed sim begun) (State.Closed new begun) l log log
 write-closed-taken sim new begun k t v l log is built made =
@@ -75,10 +96,10 @@ close-taken sim new txn begun l log after is made logged =
     spoken (State.Open sim txn begun) (State.Closed new begun) l lines.Close log after (entries.Closed l.number (close_status (state_of sim).world)) is (refl, refl) logged
     (λ s p at. close-line sim new txn begun s p l.number made at)
 
-pub asked-closed-taken : (sim new : Sim) (begun budget : ℕ) (b : Batch) (block : Block) (l : Numbered) (log after : List Entry) → l.line ≡ lines.Batch b block → IsSome (next_stage Closed l.line) → AskedBy (state_of sim) (state_of new) budget None b l.number log after → Taken budget (State.Closed sim begun) (State.Closed new begun) l log after
-asked-closed-taken sim new begun budget b block l log after is built by =
+pub asked-closed-taken : (sim new : Sim) (begun budget : ℕ) (b : Batch) (block : Block) (l : Numbered) (log after : List Entry) → l.line ≡ lines.Batch b block → IsSome (next_stage Closed l.line) → 0 < budget → AskedBy (state_of sim) (state_of new) budget None b l.number log after → Taken budget (State.Closed sim begun) (State.Closed new begun) l log after
+asked-closed-taken sim new begun budget b block l log after is built tries by =
     spoken (State.Closed sim begun) (State.Closed new begun) l (lines.Batch b block) log after (entries.Batch l.number by.steps by.outcome) is (refl, refl) by.logged
-    (λ s p at. asked-closed sim new begun budget b block l.number log after s p by (some-if _ Closed (built-line Closed l (lines.Batch b block) is built)) at)
+    (λ s p at. asked-closed sim new begun budget b block l.number log after s p by tries (some-if _ Closed (built-line Closed l (lines.Batch b block) is built)) at)
 
 pub open-for : (at : Option Stamp) (txn : Txn) → txn.last.0 ≡ 0 → IsOpenFor at (Some (asker_of txn))
 open-for None txn h = omega (arith, h)
@@ -88,10 +109,10 @@ alone-for : (at : Option Stamp) → is_some at ≡ true → IsOpenFor at None
 alone-for None h = cc
 alone-for (Some s) h = tt
 
-pub asked-open-taken : (sim new : Sim) (txn : Txn) (begun budget : ℕ) (b : Batch) (block : Block) (l : Numbered) (log after : List Entry) → l.line ≡ lines.Batch b block → IsSome (next_stage (Open txn.stamp.0) l.line) → txn.last.0 ≡ 0 → AskedBy (state_of sim) (state_of new) budget (Some (asker_of txn)) b l.number log after → Taken budget (State.Open sim txn begun) (State.Open new txn begun) l log after
-asked-open-taken sim new txn begun budget b block l log after is built fresh by =
+pub asked-open-taken : (sim new : Sim) (txn : Txn) (begun budget : ℕ) (b : Batch) (block : Block) (l : Numbered) (log after : List Entry) → l.line ≡ lines.Batch b block → IsSome (next_stage (Open txn.stamp.0) l.line) → txn.last.0 ≡ 0 → 0 < budget → AskedBy (state_of sim) (state_of new) budget (Some (asker_of txn)) b l.number log after → Taken budget (State.Open sim txn begun) (State.Open new txn begun) l log after
+asked-open-taken sim new txn begun budget b block l log after is built fresh tries by =
     spoken (State.Open sim txn begun) (State.Open new txn begun) l (lines.Batch b block) log after (entries.Batch l.number by.steps by.outcome) is (refl, refl) by.logged
-    (λ s p at. asked-open sim new txn begun budget b block l.number log after s p by (some-if _ (Open txn.stamp.0) (built-line (Open txn.stamp.0) l (lines.Batch b block) is built)) (open-for b.at txn fresh) at)
+    (λ s p at. asked-open sim new txn begun budget b block l.number log after s p by tries (some-if _ (Open txn.stamp.0) (built-line (Open txn.stamp.0) l (lines.Batch b block) is built)) (open-for b.at txn fresh) at)
 
 -- events are counted as before
 

@@ -1,5 +1,5 @@
 -- The scripts that are built so far.
-use Rattle.std.specs.Prelude.{◌≡◌, ℕ, Bool, true, false, ◌&&◌, List, [], ◌∷◌, length, nat_le, nat_lt, Option, Some, None, is_some, if◌then◌else◌, ◌==◌, refl}
+use Rattle.std.specs.Prelude.{◌≡◌, ℕ, Bool, true, ◌&&◌, List, [], ◌∷◌, length, nat_le, nat_lt, Option, Some, None, is_some, if◌then◌else◌, ◌==◌, refl}
 use Rattle.std.specs.List.{list_all}
 use Rattle.ds_base.specs.Order.{key_lt, bound}
 use Rattle.ds_base.specs.declared.value.Stamp.{Stamp}
@@ -7,9 +7,8 @@ use Rattle.ds_kind.specs.declared.batch.Batch.{Batch}
 use Rattle.ds_kind.specs.declared.request.Request.{Request}
 use Rattle.ds_rule.specs.declared.event.Block.{Block}
 use Rattle.ds_rule.specs.declared.cluster.ClusterRange.{ClusterRange}
-use Rattle.ds_rule.specs.Begin.{tiles}
+use Rattle.ds_rule.specs.Begin.{is_leased, tiles}
 use Rattle.ds_script.specs.declared.line.Line.{Line}
-use Rattle.ds_script.specs.declared.line.Line.TheVariants as Line
 use Rattle.ds_script.specs.declared.line.Numbered.{Numbered}
 use Rattle.ds_send.specs.Batch as Sends
 
@@ -19,9 +18,9 @@ pub data Stage : Type 0 where
   Closed : Stage
   Open : ℕ → Stage
 
--- at most 1,024 ranges, which tile the keys
+-- at most 1,024 ranges, which tile the keys, each with its lease at a node that has a replica
 abbrev pub is_cluster : List ClusterRange → Bool
-is_cluster rs = tiles rs && nat_le (length rs) 1024
+is_cluster rs = tiles rs && nat_le (length rs) 1024 && list_all is_leased rs
 
 -- nothing happens beside the batch, and no piece is picked
 abbrev pub is_quiet : Block → Bool

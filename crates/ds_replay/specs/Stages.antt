@@ -1,14 +1,14 @@
 -- How far a replay has come.
-use Rattle.std.specs.Prelude.{◌≡◌, ℕ, ◌≤◌, List, Option, Some, None}
-use Rattle.ds_cell.specs.Store.{Asker, Store, StoreTxn, Pending, empty_store}
+use Rattle.std.specs.Prelude.{◌≡◌, ℕ, ◌≤◌, Option, Some, None}
+use Rattle.ds_cell.specs.Store.{Store, StoreTxn, Pending, empty_store}
 use Rattle.ds_rule.specs.StandsFor.{StandsFor, IsKnown}
+use Rattle.ds_rule.specs.Steady.{Steady}
 use Rattle.ds_script.specs.Journals.{Played, first_played}
 use Rattle.ds_send.specs.declared.txn.Txn.{Txn}
 use Rattle.ds_send.specs.Asked.{asker_of}
 use Rattle.ds_sim.specs.declared.sim.Sim.{Sim}
 use Rattle.ds_sim.specs.State.{state_of}
 use Rattle.ds_replay.specs.declared.state.State.{State}
-use Rattle.ds_replay.specs.declared.state.State.TheVariants as State
 use Rattle.ds_replay.specs.Built.{Stage, Start, Closed, Open}
 
 abbrev pub stage_of : State → Stage
@@ -16,10 +16,11 @@ stage_of State.Start = Start
 stage_of (State.Closed sim begun) = Closed
 stage_of (State.Open sim txn begun) = Open txn.stamp.0
 
--- the cluster is the world that was played, which stands for the store; so many transactions have begun
+-- the cluster is the world that was played, which stands for the store and is steady; so many transactions have begun
 pub record IsIn (sim : Sim) (begun : ℕ) (s : Played) (p : Store) : Type 0 where
   pub world : s.world ≡ (state_of sim).world
   pub stands : StandsFor s.world p
+  pub steady : Steady s.world
   pub played : s.asks.begun ≡ begun
   pub stored : p.begun ≡ begun
 

@@ -2,6 +2,7 @@
 ghost use Rattle.std.specs.Prelude.{◌≡◌, option_map, Some, None, if◌then◌else◌};
 ghost use Rattle.std.specs.List.{list_all};
 ghost use Rattle.ds_base.specs.Order.{key_lt, bound};
+ghost use Rattle.ds_rule.specs.Begin.{is_leased};
 ghost use Rattle.ds_send.specs.Batch as Sends;
 ghost use Rattle.ds_replay.specs.Built.{Stage, Start, Closed, Open, next_stage, is_cluster, is_quiet, may_stand_by, is_sent, first_unbuilt};
 ghost use Rattle.ds_replay.specs.Forms.{form_stage};
@@ -21,10 +22,16 @@ enum Form {
     Open(Stamp),
 }
 
+fn are_leased(ranges: &[ClusterRange]) -> bool
+    ensures { result ≡ list_all is_leased ranges.now }
+{
+    ranges.iter().all(|range| range.nodes.contains(range.lease))
+}
+
 fn is_cluster(ranges: &[ClusterRange]) -> bool
     ensures { result ≡ is_cluster ranges.now }
 {
-    tiles(ranges) && ranges.len() <= 1024
+    tiles(ranges) && ranges.len() <= 1024 && are_leased(ranges)
 }
 
 fn is_quiet(block: &Block) -> bool

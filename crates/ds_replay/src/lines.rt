@@ -61,6 +61,7 @@ fn from_closed(
 ) -> Result<State, AllocError>
     requires built { IsSome (next_stage Closed numbered.now.line) }
     requires within { IsWithin (State.Closed sim begun) 20000 }
+    requires tries { 0 < (sender.old).budget }
     requires texts { has_texts log.old ≡ true }
     ensures stage { IfOk result (λ new. Some (stage_of new) ≡ next_stage Closed numbered.now.line) }
     ensures within { IfOk result (λ new. (n : ℕ) → IsWithin (State.Closed sim begun) n → IsWithin new (n + 1)) }
@@ -100,6 +101,7 @@ fn from_open(
 ) -> Result<State, AllocError>
     requires built { IsSome (next_stage (Open txn.stamp.0) numbered.now.line) }
     requires within { IsWithin (State.Open sim txn begun) 20000 }
+    requires tries { 0 < (sender.old).budget }
     requires texts { has_texts log.old ≡ true }
     ensures stage { IfOk result (λ new. Some (stage_of new) ≡ next_stage (Open txn.stamp.0) numbered.now.line) }
     ensures within { IfOk result (λ new. (n : ℕ) → IsWithin (State.Open sim txn begun) n → IsWithin new (n + 1)) }
@@ -136,6 +138,7 @@ pub(crate) fn take(
 ) -> Result<State, AllocError>
     requires built { IsSome (next_stage (stage_of state) numbered.now.line) }
     requires within { IsWithin state 20000 }
+    requires tries { 0 < (sender.old).budget }
     requires texts { has_texts log.old ≡ true }
     ensures stage { IfOk result (λ new. Some (stage_of new) ≡ next_stage (stage_of state) numbered.now.line) }
     ensures within { IfOk result (λ new. (n : ℕ) → IsWithin state n → IsWithin new (n + 1)) }

@@ -3,13 +3,15 @@ pub mod Course
 pub mod Delivered
 pub mod Examples
 pub mod ExamplesOfJournals
+pub mod ExamplesOfPaths
 pub mod ExamplesOfStores
 pub mod Failing
 pub mod Gathering
 pub mod Joining
 pub mod Kept
 pub mod Lifetime
-pub mod NeverDoubtful
+pub mod NeverEnded
+pub mod Own
 pub mod Puts
 pub mod Quiet
 pub mod ReadLaw
@@ -21,6 +23,7 @@ pub mod Served
 pub mod Service
 pub mod Settling
 pub mod Standing
+pub mod Steadiness
 pub mod Tiling
 pub mod Trips
 pub mod Truth

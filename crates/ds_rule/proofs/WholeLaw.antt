@@ -12,20 +12,17 @@ use Rattle.ds_kind.specs.declared.reply.Failure.{Failure}
 use Rattle.ds_kind.specs.declared.reply.Failure.TheVariants as Failure
 use Rattle.ds_kind.specs.declared.reply.Reply.{Reply}
 use Rattle.ds_kind.specs.declared.request.Request.{Request}
-use Rattle.ds_cell.specs.declared.verdict.ActFault.{ActFault}
-use Rattle.ds_cell.specs.declared.verdict.ActFault.TheVariants as Fault
-use Rattle.ds_cell.specs.Ask.{Cells, Asked, Failed as AskFailed, Gave}
-use Rattle.ds_cell.specs.Requests.{ask_request}
+use Rattle.ds_cell.specs.Ask.{Cells}
 use Rattle.ds_cell.specs.Store.{Store, StoreTxn, Asker, WriteAt}
 use Rattle.ds_rule.specs.declared.answer.Answer.{Answer}
 use Rattle.ds_rule.specs.declared.answer.Answer.TheVariants.{Done, Failed, Lost}
 use Rattle.ds_rule.specs.declared.answer.Outcome.{Outcome}
 use Rattle.ds_rule.specs.declared.answer.Outcome.TheVariants as Outcome
 use Rattle.ds_rule.specs.declared.journal.JournalStep.TheVariants.{Send}
-use Rattle.ds_rule.specs.Asking.{Asking, Made, Gives, Fails, failure_of, and_before, and_then, made_by, ask_item, ask_all, asking_by, at_of, finished, txn_of, txn_number}
+use Rattle.ds_rule.specs.Asking.{Asking, Gives, Fails, ask_all, asking_by, finished, txn_of, txn_number}
 use Rattle.ds_rule.specs.Cause.{IsIdle, IsWholeOf, LastFails, LastLost, LastServes, TooWide}
 use Rattle.ds_rule.specs.Clauses.{Stands}
-use Rattle.ds_rule.specs.Deliver.{has_id, holds_item, served, deliver_answer}
+use Rattle.ds_rule.specs.Deliver.{has_id, holds_item, deliver_answer}
 use Rattle.ds_rule.specs.Journal.{Happening, Did as Stepped, Runs, Accepted, pairs}
 use Rattle.ds_rule.specs.Law.{LeadsTo, IsProperRead, IsSingle, IsQuiet, MayAct, WholeLaw}
 use Rattle.ds_rule.specs.Path.{Path, IsHigh, IsOf}
@@ -37,6 +34,7 @@ use Rattle.ds_rule.proofs.Alike.{Alike, all-alike}
 use Rattle.ds_rule.proofs.Course.{OnWay, IsPlain, course}
 use Rattle.ds_rule.proofs.Failing.{status_of, Why, ByRecord, ByItem, why, reads-fail, nothing-stops, runs-cut, each-left, each-right}
 use Rattle.ds_rule.proofs.Kept.{each-append}
+use Rattle.ds_rule.proofs.Own.{never-of-record}
 use Rattle.ds_rule.proofs.Quiet.{quiet-made, idle-stands}
 use Rattle.ds_rule.proofs.Routes.{append-nil}
 use Rattle.ds_rule.proofs.Service.{service, held}
@@ -141,41 +139,7 @@ fails-so q a b p batch f got single path quiet whole idle may ready last =
     let at = before-last q a b p got path last.before last.node last.piece (Failed f) last.last quiet whole (each-left IsIdle last.before step (subst (Each IsIdle) last.last idle)) ready.stands in
     failing q at.world p last.node last.piece f single at.head at.items may at.stands at.does.1.0
 
--- no request fails with a committed transaction
-
-abbrev IsCommitted : Failure → Type 0
-IsCommitted Failure.Committed = Unit {0}
-IsCommitted f = ⊥
-
-abbrev Uncommitted : Made → Type 0
-Uncommitted (Fails f) = IsCommitted f → ⊥
-Uncommitted (Gives cells ws rs) = Unit {0}
-
-fault-own : (i : ℕ) (k : List ℕ) (f : ActFault) → IsCommitted (failure_of i k f) → ⊥
-fault-own i k (Fault.Condition v) h = h
-fault-own i k (Fault.TooOld t) h = h
-fault-own i k Fault.NotInteger h = h
-fault-own i k Fault.Overflow h = h
-fault-own i k (Fault.Memory e) h = h
-
-made-own : (h : Head) (i : Item) (a : Asked) (cells : Cells) → Uncommitted (made_by h i a cells)
-made-own h i (AskFailed k f) cells = fault-own i.pos k f
-made-own h i (Gave bits ws) cells = tt
-
-before-own : (ws : List WriteAt) (rs : List Reply) (m : Made) → Uncommitted m → Uncommitted (and_before ws rs m)
-before-own ws rs (Fails f) h = h
-before-own ws rs (Gives cells more later) h = tt
-
-then-own : (m : Made) (next : Cells → Made) → Uncommitted m → ((cells : Cells) → Uncommitted (next cells)) → Uncommitted (and_then m next)
-then-own (Fails f) next h more = h
-then-own (Gives cells ws rs) next h more = before-own ws rs (next cells) (more cells)
-
-all-own : (h : Head) (items : List Item) (cells : Cells) → Uncommitted (ask_all h items cells)
-all-own h [] cells = tt
-all-own h (i ∷ is) cells = then-own (ask_item h i cells) (ask_all h is) (made-own h i (ask_request i.request (at_of h i.seq.0) cells) cells) (λ out. all-own h is out)
-
-never-committed : (h : Head) (items : List Item) (cells : Cells) → ask_all h items cells ≡ Fails Failure.Committed → ⊥
-never-committed h items cells is = (subst Uncommitted is (all-own h items cells)) tt
+-- what a quiet call can't be answered
 
 never-lost : (hs before : List Happening) (n : ℕ) (piece : Piece) → hs ≡ before ++ Stepped (Send n piece Lost) ∷ [] → Each IsQuiet hs → ⊥
 never-lost hs before n piece last quiet = (each-right IsQuiet before (Stepped (Send n piece Lost) ∷ []) (subst (Each IsQuiet) last quiet)).0 tt
@@ -278,7 +242,7 @@ whole_law budget batch q a b Outcome.TxnAborted p single given did quiet may rea
 whole_law budget batch q a b (Outcome.Ambiguous lost) p single given did quiet may ready = absurd (either did.cause.1)
   where
     either : (LastFails Failure.Committed did.path.added ⊎ LastLost did.path.added) → ⊥
-    either (inl last) = never-committed q.head q.items p.cells (fails-so q a b p batch Failure.Committed did.got (headed batch q a p single ready) did.path quiet did.cause.0.0 did.cause.0.1 may ready last)
+    either (inl last) = never-of-record q.head q.items p.cells Failure.Committed tt (fails-so q a b p batch Failure.Committed did.got (headed batch q a p single ready) did.path quiet did.cause.0.0 did.cause.0.1 may ready last)
     either (inr last) = never-lost did.path.added last.before last.node last.piece last.last quiet
 whole_law budget batch q a b (Outcome.RetryExhausted r l) p single given did quiet may ready =
     (held-back a b p batch q (Outcome.RetryExhausted r l) did.got single did.path quiet did.cause.0.1 ready refl, tt)

@@ -1,5 +1,6 @@
 -- The world that a cluster begins with.
 use Rattle.std.specs.Prelude.{◌≡◌, ℕ, ◌+◌, Bool, true, false, ◌&&◌, ◌==◌, List, [], ◌∷◌, length, map, refl}
+use Rattle.std.specs.List.{list_any}
 use Rattle.ds_base.specs.Order.{key_lt, bound}
 use Rattle.ds_rule.specs.declared.cluster.ClusterRange.{ClusterRange}
 use Rattle.ds_rule.specs.World.{World, Range}
@@ -32,6 +33,10 @@ rises (r ∷ rs) = key_lt r.start (next_start rs) && rises rs
 abbrev pub tiles : List ClusterRange → Bool
 tiles rs = (length (next_start rs) == 0) && rises rs
 
+-- the lease is with a node that has a replica
+abbrev pub is_leased : ClusterRange → Bool
+is_leased r = list_any (λ n. n == r.lease) r.nodes
+
 abbrev pub first_world : List ClusterRange → World
 first_world rs = record {
   ranges = ranges_of 1 rs;
@@ -50,3 +55,9 @@ two_ranges_tile = refl
 
 not_from_the_middle : tiles (record { start = 103 ∷ []; nodes = 1 ∷ []; lease = 1 } ∷ []) ≡ false
 not_from_the_middle = refl
+
+the_lease_is_with_a_replica : is_leased (record { start = []; nodes = 1 ∷ 2 ∷ []; lease = 2 }) ≡ true
+the_lease_is_with_a_replica = refl
+
+not_with_another_node : is_leased (record { start = []; nodes = 1 ∷ 2 ∷ []; lease = 3 }) ≡ false
+not_with_another_node = refl

@@ -1,6 +1,6 @@
 -- Why a batch was answered as it was: what its steps show.
-use Rattle.std.specs.Prelude.{◌≡◌, ℕ, ◌+◌, ◌≤◌, ◌⊎◌, Bool, true, false, ◌&&◌, List, [], ◌∷◌, ◌++◌, refl}
-use Rattle.ds_base.specs.Order.{Extent, key_le, max_key, min_key}
+use Rattle.std.specs.Prelude.{◌≡◌, ℕ, ◌+◌, ◌≤◌, ◌⊎◌, Bool, true, false, List, [], ◌∷◌, ◌++◌, refl}
+use Rattle.ds_base.specs.Order.{Extent, max_key, min_key}
 use Rattle.ds_base.specs.declared.value.Dir.TheVariants.{Forward}
 use Rattle.ds_desc.specs.Contains.{contains}
 use Rattle.ds_desc.specs.declared.desc.Info.{Info}
@@ -22,7 +22,7 @@ use Rattle.ds_rule.specs.Asking.{Asking}
 use Rattle.ds_rule.specs.Clauses.{Stands}
 use Rattle.ds_rule.specs.Gathered.{Gathered}
 use Rattle.ds_rule.specs.Journal.{Happening, Moved, Did, Accepted}
-use Rattle.ds_rule.specs.Path.{Path}
+use Rattle.ds_rule.specs.Path.{Path, holds_span}
 use Rattle.ds_rule.specs.Pieces.{Each}
 
 -- counts
@@ -88,9 +88,6 @@ widened s (i ∷ is) = widened (record { start = min_key s.start (span_of i.requ
 abbrev pub whole_span : List Item → Extent
 whole_span [] = record { start = []; end = [] }
 whole_span (i ∷ is) = widened (span_of i.request) is
-
-abbrev pub holds_span : Extent → Extent → Bool
-holds_span outer inner = key_le outer.start inner.start && key_le inner.end outer.end
 
 -- the first row of a lookup of the batch's first key holds the batch's span, or does not
 abbrev pub first_holds : List Item → Bool → List Info → Type 0

@@ -13,4 +13,5 @@ pub mod Path
 pub mod Pieces
 pub mod Plain
 pub mod StandsFor
+pub mod Steady
 pub mod World

@@ -1,31 +1,36 @@
 -- The steps of one piece.
-use Rattle.std.proofs.Common.{◌≡◌, ℕ, Bool, true, false, cond, List, [], ◌∷◌, ◌++◌, Option, Some, None, refl, sym, ap, ◌∙◌, subst, slice_get, map, append_assoc}
+use Rattle.std.proofs.Common.{◌≡◌, ℕ, ◌+◌, Bool, true, false, cond, not, ◌&&◌, List, [], ◌∷◌, ◌++◌, Some, None, refl, sym, ap, ◌∙◌, subst, slice_get, map, append_assoc}
 use Rattle.std.specs.Ordering.{is_gt, is_le}
 use Rattle.std.specs.declared.cmp.Ordering.{Ordering}
 use Rattle.std.specs.declared.cmp.Ordering.TheVariants.{Less, Equal, Greater}
-use Rattle.ds_base.specs.Order.{key_lt, key_le, min_key, bound, IsKey}
+use Rattle.ds_base.specs.Order.{Extent, key_lt, key_le, min_key, holds, after, bound, IsKey}
 use Rattle.ds_base.specs.declared.value.Dir.TheVariants.{Forward}
-use Rattle.ds_base.proofs.OrderedFacts.{le_of_lt, lt_le_trans}
+use Rattle.ds_base.proofs.KeyOrder.{after-above, and_first, and_second, point-holds}
+use Rattle.ds_base.proofs.OrderedFacts.{le_of_lt, le_of_not_lt, lt_le_trans}
 use Rattle.ds_desc.specs.declared.desc.Info.{Info}
 use Rattle.ds_desc.specs.declared.meta.Looked.TheVariants as Looked
-use Rattle.ds_desc.specs.declared.refusal.Refusal.{Refusal}
-use Rattle.ds_kind.specs.Request.{cut_to}
+use Rattle.ds_kind.specs.Request.{cut_to, span_of}
+use Rattle.ds_kind.specs.declared.batch.Head.{Head}
 use Rattle.ds_kind.specs.declared.batch.Item.{Item}
 use Rattle.ds_kind.specs.declared.batch.Piece.{Piece}
 use Rattle.ds_kind.specs.declared.reply.Failure.{Failure}
 use Rattle.ds_kind.specs.declared.reply.Reply.{Reply}
+use Rattle.ds_kind.specs.declared.request.Request.{Request}
+use Rattle.ds_kind.specs.declared.request.Request.TheVariants.{Get, Scan, ReverseScan, Put, ConditionalPut, InitPut, Increment, Delete, DeleteRange, EndTxn, QueryIntent, ResolveIntent, ResolveIntentRange, AdminSplit, AdminTransferLease}
 use Rattle.ds_rule.specs.declared.answer.Answer.{Answer}
-use Rattle.ds_rule.specs.declared.answer.Answer.TheVariants.{Done, Failed, Refused, Lost}
+use Rattle.ds_rule.specs.declared.answer.Answer.TheVariants.{Done, Failed}
 use Rattle.ds_rule.specs.declared.journal.JournalStep.TheVariants.{Look, Send}
 use Rattle.ds_rule.specs.Asking.{Asking}
-use Rattle.ds_rule.specs.Cause.{Trip, LastFails}
+use Rattle.ds_rule.specs.Cause.{Trip, losses_of, refusals_of}
 use Rattle.ds_rule.specs.Clauses.{Stands, Steps, and_step}
-use Rattle.ds_rule.specs.Journal.{Happening, Moved, Did, Accepted, accepted_by, pairs}
+use Rattle.ds_rule.specs.Journal.{Happening, Moved, Did, accepted_by, pairs}
+use Rattle.ds_rule.specs.Path.{GoesTo, holds_span}
 use Rattle.ds_rule.specs.Pieces.{PieceOf}
 use Rattle.ds_rule.specs.Gathered.{IsBody}
 use Rattle.ds_rule.proofs.Reading.{body-cut}
 use Rattle.ds_rule.proofs.Served.{First, first-served}
-use Rattle.ds_rule.proofs.Trips.{trip-none, trip-step, trip-then, step-added, then-added}
+use Rattle.ds_rule.proofs.Routes.{le_itself}
+use Rattle.ds_rule.proofs.Trips.{trip-step, trip-sent, sent-added}
 use Rattle.ds_send.specs.Sent.{FailedAt}
 
 first_of_list : (rs : List Reply) (r : Reply) → slice_get rs 0 ≡ Some r → (rest : List Reply) × (rs ≡ r ∷ rest)
@@ -54,46 +59,96 @@ not_gt Greater h = sym h
 pub below_bound : (k e : List ℕ) → key_lt k e ≡ true → IsKey e → key_lt k bound ≡ true
 below_bound k e h key = lt_le_trans k e bound h (not_gt _ key.low)
 
+-- a piece is for the range of its route
+
+min_in : (e r : List ℕ) → key_le (min_key e r) r ≡ true
+min_in e r =
+    elim (key_lt r e) as (λ t. key_lt r e ≡ t → key_le (cond t r e) r ≡ true) [
+      | true ↦ λ h. le_itself r
+      | false ↦ λ h. le_of_not_lt r e h
+    ] refl
+
+and_both : (a b : Bool) → a ≡ true → b ≡ true → (a && b) ≡ true
+and_both a b p q = ap (λ t. t && b) p ∙ q
+
+over-held : (m e : List ℕ) (s : Extent) → holds s.start s.end m ≡ true → holds_span s (record { start = m; end = min_key e s.end }) ≡ true
+over-held m e s h = and_both (key_le s.start m) _ (and_first (key_le s.start m) _ h) (min_in e s.end)
+
+-- the one key of a point is the key that was routed
+point-held : (k m e : List ℕ) (s : Extent) → key_le k m ≡ true → key_lt m e ≡ true → key_le e (after k) ≡ true → holds s.start s.end m ≡ true → holds_span s (record { start = k; end = after k }) ≡ true
+point-held k m e s from below to h =
+    let same : m ≡ k = point-holds k m (and_both (key_le k m) _ from (lt_le_trans m e (after k) below to)) in
+    let here : holds s.start s.end k ≡ true = subst (λ z. holds s.start s.end z ≡ true) same h in
+    and_both (key_le s.start k) _ (and_first (key_le s.start k) _ here) (not_gt _ (after-above k s.end ∙ ap not (and_second (key_le s.start k) _ here)))
+
+cut-held : (m e : List ℕ) (s : Extent) (r : Request) → key_le (span_of r).start m ≡ true → key_lt m e ≡ true → key_le e (span_of r).end ≡ true → holds s.start s.end m ≡ true → holds_span s (span_of (cut_to m (min_key e s.end) r)) ≡ true
+cut-held m e s (Get a) from below to h = point-held a.key m e s from below to h
+cut-held m e s (Scan a) from below to h = over-held m e s h
+cut-held m e s (ReverseScan a) from below to h = over-held m e s h
+cut-held m e s (Put a) from below to h = point-held a.key m e s from below to h
+cut-held m e s (ConditionalPut a) from below to h = point-held a.key m e s from below to h
+cut-held m e s (InitPut a) from below to h = point-held a.key m e s from below to h
+cut-held m e s (Increment a) from below to h = point-held a.key m e s from below to h
+cut-held m e s (Delete a) from below to h = point-held a.key m e s from below to h
+cut-held m e s (DeleteRange a) from below to h = over-held m e s h
+cut-held m e s (EndTxn a) from below to h = point-held a.key m e s from below to h
+cut-held m e s (QueryIntent a) from below to h = point-held a.key m e s from below to h
+cut-held m e s (ResolveIntent a) from below to h = point-held a.key m e s from below to h
+cut-held m e s (ResolveIntentRange a) from below to h = over-held m e s h
+cut-held m e s (AdminSplit a) from below to h = point-held a.key m e s from below to h
+cut-held m e s (AdminTransferLease a) from below to h = point-held a.key m e s from below to h
+
+-- the part of a request from m on, up to e or to the end of the route's range
+pub part-goes : (h : Head) (i : Item) (row : Info) (m e k : List ℕ) (p : Piece) → key_le (span_of i.request).start m ≡ true → key_lt m e ≡ true → key_le e (span_of i.request).end ≡ true → holds row.desc.span.start row.desc.span.end m ≡ true → k ≡ min_key e row.desc.span.end → p ≡ record { head = h; range = row.desc.id; items = record i { request = cut_to m k i.request } ∷ []; dir = Forward } → GoesTo row row.lease.node p
+part-goes h i row m e k p from below to here stop is = subst (GoesTo row row.lease.node) (sym is) (record {
+  lease = refl;
+  range = refl;
+  held = and_both (holds_span row.desc.span (span_of (cut_to m k i.request))) true (subst (λ k. holds_span row.desc.span (span_of (cut_to m k i.request)) ≡ true) (sym stop) (cut-held m e row.desc.span i.request from below to here)) refl;
+})
+
 -- a lookup that was lost
 pub lost-look : (q : Asking) (a b : Stands) (k : List ℕ) → Steps a b (Look k Forward Looked.Lost) → Trip q a b [] 0 1
-lost-look q a b k st = trip-step q a b (Look k Forward Looked.Lost) tt st
+lost-look q a b k st = trip-step q a b (Look k Forward Looked.Lost) tt tt st
 
-found-look : (q : Asking) (a b : Stands) (k : List ℕ) (infos : List Info) → Steps a b (Look k Forward (Looked.Rows infos)) → Trip q a b [] 0 0
-found-look q a b k infos st = trip-step q a b (Look k Forward (Looked.Rows infos)) tt st
+-- a route, and a piece of the batch sent there
 
--- a route, and a piece of the batch sent
+pub record IsSent (q : Asking) (a b c : Stands) (n : ℕ) (p : Piece) (x : Answer) : Type 0 where
+  pub key : List ℕ
+  pub row : Info
+  pub rest : List Info
+  pub looks : Steps a b (Look key Forward (Looked.Rows (row ∷ rest)))
+  pub sends : Steps b c (Send n p x)
+  pub of : PieceOf q q.head.left p
+  pub goes : GoesTo row n p
 
-pub sent-lost : (q : Asking) (a b c : Stands) (k : List ℕ) (infos : List Info) (n : ℕ) (p : Piece) (x : Answer) → Steps a b (Look k Forward (Looked.Rows infos)) → Steps b c (Send n p x) → x ≡ Lost → PieceOf q q.head.left p → Trip q a c [] 0 1
-sent-lost q a b c k infos n p x look send is of =
-    trip-then q a b c [] [] 0 0 0 1 (found-look q a b k infos look) (trip-step q b c (Send n p Lost) of (subst (λ x. Steps b c (Send n p x)) is send))
+pub is-sent : (q : Asking) (a b c : Stands) (k : List ℕ) (row : Info) (rest : List Info) (n : ℕ) (p : Piece) (x y : Answer) → Steps a b (Look k Forward (Looked.Rows (row ∷ rest))) → Steps b c (Send n p x) → x ≡ y → PieceOf q q.head.left p → GoesTo row n p → IsSent q a b c n p y
+is-sent q a b c k row rest n p x y look send is of goes =
+    record { key = k; row = row; rest = rest; looks = look; sends = subst (λ x. Steps b c (Send n p x)) is send; of = of; goes = goes }
 
-pub sent-refused : (q : Asking) (a b c : Stands) (k : List ℕ) (infos : List Info) (n : ℕ) (p : Piece) (x : Answer) (r : Refusal) → Steps a b (Look k Forward (Looked.Rows infos)) → Steps b c (Send n p x) → x ≡ Refused r → PieceOf q q.head.left p → Trip q a c [] 1 0
-sent-refused q a b c k infos n p x r look send is of =
-    trip-then q a b c [] [] 0 0 1 0 (found-look q a b k infos look) (trip-step q b c (Send n p (Refused r)) of (subst (λ x. Steps b c (Send n p x)) is send))
+pub sent-trip : (q : Asking) (a b c : Stands) (n : ℕ) (p : Piece) (x : Answer) → IsSent q a b c n p x → Trip q a c (accepted_by (Send n p x)) (0 + refusals_of (Send n p x)) (0 + losses_of (Send n p x))
+sent-trip q a b c n p x s = trip-sent q a b c s.key s.row s.rest n p x s.looks s.sends s.of s.goes
 
-pub sent-failed : (q : Asking) (a b c : Stands) (k : List ℕ) (infos : List Info) (n : ℕ) (p : Piece) (x : Answer) (f : Failure) → Steps a b (Look k Forward (Looked.Rows infos)) → Steps b c (Send n p x) → x ≡ Failed f → PieceOf q q.head.left p → FailedAt q a c f
-sent-failed q a b c k infos n p x f look send is of =
-    let st : Steps b c (Send n p (Failed f)) = subst (λ x. Steps b c (Send n p x)) is send in
-    let first = found-look q a b k infos look in
-    record {
-      trip = trip-then q a b c [] [] 0 0 0 0 first (trip-step q b c (Send n p (Failed f)) of st);
-      last = record {
-        before = first.path.added ++ map Moved st.moves;
-        node = n;
-        piece = p;
-        last = then-added q a b c [] [] 0 0 0 0 first (trip-step q b c (Send n p (Failed f)) of st)
-            ∙ ap (λ hs. first.path.added ++ hs) (step-added q b c (Send n p (Failed f)) of st)
-            ∙ sym (append_assoc first.path.added (map Moved st.moves) (Did (Send n p (Failed f)) ∷ []));
-      };
-    }
+-- what happened before the send
+abbrev pub before_send : {q : Asking} {a b c : Stands} {n : ℕ} {p : Piece} {x : Answer} → IsSent q a b c n p x → List Happening
+before_send s = and_step s.looks.moves (Look s.key Forward (Looked.Rows (s.row ∷ s.rest))) ++ map Moved s.sends.moves
 
-pub sent-done : (q : Asking) (a b c : Stands) (k : List ℕ) (infos : List Info) (n : ℕ) (p : Piece) (x : Answer) (i : Item) (r : Reply) (rs : List Reply) → Steps a b (Look k Forward (Looked.Rows infos)) → Steps b c (Send n p x) → x ≡ Done rs → slice_get rs 0 ≡ Some r → p.items ≡ i ∷ [] → PieceOf q q.head.left p → Trip q a c (record { head = p.head; item = i; reply = r } ∷ []) 0 0
-sent-done q a b c k infos n p x i r rs look send is first one of =
+pub trip-added : (q : Asking) (a b c : Stands) (n : ℕ) (p : Piece) (x : Answer) (s : IsSent q a b c n p x) → (sent-trip q a b c n p x s).path.added ≡ before_send s ++ Did (Send n p x) ∷ []
+unfolding sent-trip
+trip-added q a b c n p x s =
+    sent-added q a b c s.key s.row s.rest n p x s.looks s.sends s.of s.goes
+    ∙ sym (append_assoc (and_step s.looks.moves (Look s.key Forward (Looked.Rows (s.row ∷ s.rest)))) (map Moved s.sends.moves) (Did (Send n p x) ∷ []))
+
+pub sent-failed : (q : Asking) (a b c : Stands) (n : ℕ) (p : Piece) (f : Failure) → IsSent q a b c n p (Failed f) → FailedAt q a c f
+sent-failed q a b c n p f s = record {
+  trip = sent-trip q a b c n p (Failed f) s;
+  last = record { before = before_send s; node = n; piece = p; last = trip-added q a b c n p (Failed f) s };
+}
+
+pub sent-done : (q : Asking) (a b c : Stands) (n : ℕ) (p : Piece) (i : Item) (r : Reply) (rs : List Reply) → IsSent q a b c n p (Done rs) → slice_get rs 0 ≡ Some r → p.items ≡ i ∷ [] → Trip q a c (record { head = p.head; item = i; reply = r } ∷ []) 0 0
+sent-done q a b c n p i r rs s first one =
     let f = first_of_list rs r first in
-    let st : Steps b c (Send n p (Done (r ∷ f.0))) = subst (λ x. Steps b c (Send n p x)) (is ∙ ap Done f.1) send in
-    let got : accepted_by (Send n p (Done (r ∷ f.0))) ≡ record { head = p.head; item = i; reply = r } ∷ [] = ap (λ is. pairs p.head is (r ∷ f.0)) one in
-    trip-then q a b c [] _ 0 0 0 0 (found-look q a b k infos look)
-    (subst (λ xs. Trip q b c xs 0 0) got (trip-step q b c (Send n p (Done (r ∷ f.0))) of st))
+    let got : accepted_by (Send n p (Done rs)) ≡ record { head = p.head; item = i; reply = r } ∷ [] = ap (λ is. pairs p.head is rs) one ∙ ap (pairs p.head (i ∷ [])) f.1 in
+    subst (λ xs. Trip q a c xs 0 0) got (sent-trip q a b c n p (Done rs) s)
 
 -- no piece with an item is served without a reply
 pub some-reply : (b c : Stands) (n : ℕ) (p : Piece) (x : Answer) (i : Item) (rs : List Reply) → Steps b c (Send n p x) → x ≡ Done rs → slice_get rs 0 ≡ None → p.items ≡ i ∷ [] → ⊥

@@ -1,5 +1,5 @@
 -- A batch that is sent in one piece.
-use Rattle.std.proofs.Common.{◌≡◌, ℕ, ◌+◌, Bool, true, false, List, [], ◌∷◌, ◌++◌, map, inl, inr, refl, sym, ap, ◌∙◌, subst, append_assoc}
+use Rattle.std.proofs.Common.{◌≡◌, ℕ, ◌+◌, Bool, true, false, List, [], ◌∷◌, ◌++◌, map, None, inl, inr, refl, sym, ap, ◌∙◌, subst, append_assoc}
 use Rattle.std.specs.List.{list_all}
 use Rattle.ds_base.specs.Order.{Extent, key_lt}
 use Rattle.ds_base.specs.declared.value.Dir.TheVariants.{Forward}
@@ -23,15 +23,17 @@ use Rattle.ds_rule.specs.declared.event.Event.{Event}
 use Rattle.ds_rule.specs.declared.journal.JournalStep.{JournalStep}
 use Rattle.ds_rule.specs.declared.journal.JournalStep.TheVariants.{Look, Send}
 use Rattle.ds_rule.specs.Asking.{Asking}
-use Rattle.ds_rule.specs.Cause.{Trip, IsWholeOf, IsWholeStep, IsIdle, whole_span, holds_span, refusals_of, losses_of}
-use Rattle.ds_rule.specs.Clauses.{Stands, Steps}
+use Rattle.ds_rule.specs.Cause.{Trip, IsWholeOf, IsIdle, whole_span}
+use Rattle.ds_rule.specs.Clauses.{Stands, Steps, and_step}
 use Rattle.ds_rule.specs.Journal.{Happening, Moved, Did, Accepted, accepted_by}
-use Rattle.ds_rule.specs.Path.{IsStepOf}
+use Rattle.ds_rule.specs.Path.{GoesTo, IsRouted, IsStepOf, holds_span}
 use Rattle.ds_rule.specs.Pieces.{Each, IsOneOf, IsCut, PieceOf}
 use Rattle.ds_rule.proofs.Routes.{le_itself}
 use Rattle.ds_rule.proofs.Trips.{each-append, trip-none, trip-step, trip-then, step-added, then-added, none-added}
-use Rattle.ds_send.specs.Sent.{IsWholeSendable, IsTold, InVain, ServedOnce, FailedOnce, WideOnce, LostOnce, any_risky}
+use Rattle.ds_send.specs.Sent.{IsWholeSendable, IsTold, InVain, ServedOnce, FailedOnce, WideOnce, LostOnce}
 use Rattle.ds_send.proofs.Cuts.{goes-forward}
+use Rattle.ds_send.proofs.Going.{IsSent, before_send, sent-trip, trip-added}
+use Rattle.ds_send.proofs.WholeSpan.{whole-held}
 
 -- the whole batch is a piece of itself
 
@@ -106,16 +108,8 @@ each-moved : (P : Happening → Type 0) → ((e : Event) → P (Moved e)) → (m
 each-moved P moved [] = tt
 each-moved P moved (m ∷ ms) = (moved m, each-moved P moved ms)
 
-step-each : (P : Happening → Type 0) → ((e : Event) → P (Moved e)) → (q : Asking) (a b : Stands) (s : JournalStep) (of : IsStepOf q s) (st : Steps a b s) → P (Did s) → Each P (trip-step q a b s of st).path.added
-step-each P moved q a b s of st here = subst (Each P) (sym (step-added q a b s of st)) (each-step P moved st.moves s here)
-
-pub in-vain : (q : Asking) (a b : Stands) (s : JournalStep) → IsStepOf q s → IsWholeStep q s → IsIdle (Did s) → (any_risky q.items ≡ true → IsTold (Did s)) → Steps a b s → InVain q a b (refusals_of s) (losses_of s)
-in-vain q a b s of whole idle told st = record {
-  got = accepted_by s;
-  trip = trip-step q a b s of st;
-  held = (step-each (IsWholeOf q) (λ e. tt) q a b s of st whole, step-each IsIdle (λ e. tt) q a b s of st idle);
-  told = λ once. step-each IsTold (λ e. tt) q a b s of st (told once);
-}
+step-each : (P : Happening → Type 0) → ((e : Event) → P (Moved e)) → (q : Asking) (a b : Stands) (s : JournalStep) (of : IsStepOf q s) (free : IsRouted None s) (st : Steps a b s) → P (Did s) → Each P (trip-step q a b s of free st).path.added
+step-each P moved q a b s of free st here = subst (Each P) (sym (step-added q a b s of free st)) (each-step P moved st.moves s here)
 
 pub then-each : (P : Happening → Type 0) (q : Asking) (a b c : Stands) (got more : List Accepted) (r1 l1 r2 l2 : ℕ) (v : Trip q a b got r1 l1) (w : Trip q b c more r2 l2) → Each P v.path.added → Each P w.path.added → Each P (trip-then q a b c got more r1 l1 r2 l2 v w).path.added
 then-each P q a b c got more r1 l1 r2 l2 v w x y = subst (Each P) (sym (then-added q a b c got more r1 l1 r2 l2 v w)) (each-append P v.path.added w.path.added x y)
@@ -149,10 +143,6 @@ pub vain-added : (q : Asking) (a b c : Stands) (r1 l1 r2 l2 : ℕ) (v : InVain q
 unfolding vain-then
 vain-added q a b c r1 l1 r2 l2 v w = then-added q a b c v.got w.got r1 l1 r2 l2 v.trip w.trip
 
-in-vain-added : (q : Asking) (a b : Stands) (s : JournalStep) (of : IsStepOf q s) (whole : IsWholeStep q s) (idle : IsIdle (Did s)) (told : any_risky q.items ≡ true → IsTold (Did s)) (st : Steps a b s) → (in-vain q a b s of whole idle told st).trip.path.added ≡ map Moved st.moves ++ Did s ∷ []
-unfolding in-vain
-in-vain-added q a b s of whole idle told st = step-added q a b s of st
-
 -- one try: a lookup, and the whole batch sent
 
 -- what a test of a span says of the batch's
@@ -160,95 +150,107 @@ pub holds-whole : (d s w : Extent) (t u : Bool) → s ≡ w → t ≡ holds_span
 holds-whole d s w t u same is e = ap (holds_span d) (sym same) ∙ sym is ∙ e
 
 pub look-lost : (q : Asking) (a b : Stands) (k : List ℕ) → Steps a b (Look k Forward Looked.Lost) → InVain q a b 0 1
-look-lost q a b k st = in-vain q a b (Look k Forward Looked.Lost) tt tt tt (λ once. tt) st
-
-look-found : (q : Asking) (a b : Stands) (k : List ℕ) (i : Info) (rest : List Info) → holds_span i.desc.span (whole_span q.items) ≡ true → Steps a b (Look k Forward (Looked.Rows (i ∷ rest))) → InVain q a b 0 0
-look-found q a b k i rest holds st = in-vain q a b (Look k Forward (Looked.Rows (i ∷ rest))) tt holds tt (λ once. tt) st
+look-lost q a b k st = record {
+  got = [];
+  trip = trip-step q a b (Look k Forward Looked.Lost) tt tt st;
+  held = (step-each (IsWholeOf q) (λ e. tt) q a b (Look k Forward Looked.Lost) tt tt st tt, step-each IsIdle (λ e. tt) q a b (Look k Forward Looked.Lost) tt tt st tt);
+  told = λ once. step-each IsTold (λ e. tt) q a b (Look k Forward Looked.Lost) tt tt st tt;
+}
 
 pub wide-once : (q : Asking) (a b : Stands) (i : Info) (rest : List Info) → Steps a b (Look (whole_span q.items).start Forward (Looked.Rows (i ∷ rest))) → contains Forward (whole_span q.items).start i.desc.span ≡ true → holds_span i.desc.span (whole_span q.items) ≡ false → WideOnce q a b i.desc
 wide-once q a b i rest st first wide = record {
   got = [];
-  trip = trip-step q a b (Look (whole_span q.items).start Forward (Looked.Rows (i ∷ rest))) tt st;
-  told = λ once. step-each IsTold (λ e. tt) q a b (Look (whole_span q.items).start Forward (Looked.Rows (i ∷ rest))) tt st tt;
+  trip = trip-step q a b (Look (whole_span q.items).start Forward (Looked.Rows (i ∷ rest))) tt tt st;
+  told = λ once. step-each IsTold (λ e. tt) q a b (Look (whole_span q.items).start Forward (Looked.Rows (i ∷ rest))) tt tt st tt;
   wide = record {
     before = map Moved st.moves;
     idle = each-moved IsIdle (λ e. tt) st.moves;
     whole = each-moved (IsWholeOf q) (λ e. tt) st.moves;
     row = i;
     rest = rest;
-    last = step-added q a b (Look (whole_span q.items).start Forward (Looked.Rows (i ∷ rest))) tt st;
+    last = step-added q a b (Look (whole_span q.items).start Forward (Looked.Rows (i ∷ rest))) tt tt st;
     desc_is = refl;
     contains_first = first;
     too_wide = wide;
   };
 }
 
--- a route that holds the batch's span, and the whole batch sent to its node
+-- a route that holds the batch's span, and the whole batch sent there
 pub record Goes (q : Asking) (a b c : Stands) (n : ℕ) (p : Piece) (x : Answer) : Type 0 where
-  pub found : InVain q a b 0 0
-  pub of : PieceOf q q.head.left p
+  pub sent : IsSent q a b c n p x
+  pub holds : holds_span sent.row.desc.span (whole_span q.items) ≡ true
   pub whole : (p.head ≡ q.head) × (p.items ≡ q.items)
-  pub sends : Steps b c (Send n p x)
 
-pub goes : (q : Asking) (a b c : Stands) (k : List ℕ) (i : Info) (rest : List Info) (n range : ℕ) (p : Piece) (x y : Answer) → IsWholeSendable q → holds_span i.desc.span (whole_span q.items) ≡ true → Steps a b (Look k Forward (Looked.Rows (i ∷ rest))) → p ≡ record { head = q.head; range = range; items = q.items; dir = Forward } → Steps b c (Send n p x) → x ≡ y → Goes q a b c n p y
-goes q a b c k i rest n range p x y send holds look is sends same = record {
-  found = look-found q a b k i rest holds look;
-  of = subst (PieceOf q q.head.left) (sym is) (whole-piece q range send);
+whole-goes : (q : Asking) (i : Info) (p : Piece) → holds_span i.desc.span (whole_span q.items) ≡ true → p ≡ record { head = q.head; range = i.desc.id; items = q.items; dir = Forward } → GoesTo i i.lease.node p
+whole-goes q i p holds is = subst (GoesTo i i.lease.node) (sym is) (record { lease = refl; range = refl; held = whole-held i.desc.span q.items holds })
+
+pub goes : (q : Asking) (a b c : Stands) (k : List ℕ) (i : Info) (rest : List Info) (p : Piece) (x y : Answer) → IsWholeSendable q → holds_span i.desc.span (whole_span q.items) ≡ true → Steps a b (Look k Forward (Looked.Rows (i ∷ rest))) → p ≡ record { head = q.head; range = i.desc.id; items = q.items; dir = Forward } → Steps b c (Send i.lease.node p x) → x ≡ y → Goes q a b c i.lease.node p y
+goes q a b c k i rest p x y send holds look is sends same = record {
+  sent = record {
+    key = k;
+    row = i;
+    rest = rest;
+    looks = look;
+    sends = subst (λ x. Steps b c (Send i.lease.node p x)) same sends;
+    of = subst (PieceOf q q.head.left) (sym is) (whole-piece q i.desc.id send);
+    goes = whole-goes q i p holds is;
+  };
+  holds = holds;
   whole = (ap (λ p. p.head) is, ap (λ p. p.items) is);
-  sends = subst (λ x. Steps b c (Send n p x)) same sends;
 }
 
+-- what holds of each thing that happened before the send, and of all
+
+before-each : (P : Happening → Type 0) → ((e : Event) → P (Moved e)) → (q : Asking) (a b c : Stands) (n : ℕ) (p : Piece) (x : Answer) (s : IsSent q a b c n p x) → P (Did (Look s.key Forward (Looked.Rows (s.row ∷ s.rest)))) → Each P (before_send s)
+before-each P moved q a b c n p x s look =
+    each-append P (and_step s.looks.moves (Look s.key Forward (Looked.Rows (s.row ∷ s.rest)))) (map Moved s.sends.moves) (each-step P moved s.looks.moves _ look) (each-moved P moved s.sends.moves)
+
+sent-each : (P : Happening → Type 0) → ((e : Event) → P (Moved e)) → (q : Asking) (a b c : Stands) (n : ℕ) (p : Piece) (x : Answer) (s : IsSent q a b c n p x) → P (Did (Look s.key Forward (Looked.Rows (s.row ∷ s.rest)))) → P (Did (Send n p x)) → Each P (sent-trip q a b c n p x s).path.added
+sent-each P moved q a b c n p x s look send =
+    subst (Each P) (sym (trip-added q a b c n p x s)) (each-append P (before_send s) (Did (Send n p x) ∷ []) (before-each P moved q a b c n p x s look) (send, tt))
+
 pub refused-once : (q : Asking) (a b c : Stands) (n : ℕ) (p : Piece) (r : Refusal) → Goes q a b c n p (Refused r) → InVain q a c 1 0
-refused-once q a b c n p r g = vain-then q a b c 0 0 1 0 g.found (in-vain q b c (Send n p (Refused r)) g.of g.whole tt (λ once. tt) g.sends)
+refused-once q a b c n p r g = record {
+  got = [];
+  trip = sent-trip q a b c n p (Refused r) g.sent;
+  held = (sent-each (IsWholeOf q) (λ e. tt) q a b c n p (Refused r) g.sent g.holds g.whole, sent-each IsIdle (λ e. tt) q a b c n p (Refused r) g.sent tt tt);
+  told = λ once. sent-each IsTold (λ e. tt) q a b c n p (Refused r) g.sent tt tt;
+}
 
 pub failed-once : (q : Asking) (a b c : Stands) (n : ℕ) (p : Piece) (f : Failure) → Goes q a b c n p (Failed f) → FailedOnce q a c f
-failed-once q a b c n p f g =
-    let s = Send n p (Failed f) in
-    let w = in-vain q b c (Send n p (Failed f)) g.of g.whole tt (λ once. tt) g.sends in
-    record {
-      vain = vain-then q a b c 0 0 0 0 g.found w;
-      last = record {
-        before = g.found.trip.path.added ++ map Moved g.sends.moves;
-        node = n;
-        piece = p;
-        last = after-all g.found.trip.path.added (map Moved g.sends.moves) w.trip.path.added (Did s) _ (in-vain-added q b c s g.of g.whole tt (λ once. tt) g.sends) (vain-added q a b c 0 0 0 0 g.found w);
-      };
-    }
+failed-once q a b c n p f g = record {
+  vain = record {
+    got = [];
+    trip = sent-trip q a b c n p (Failed f) g.sent;
+    held = (sent-each (IsWholeOf q) (λ e. tt) q a b c n p (Failed f) g.sent g.holds g.whole, sent-each IsIdle (λ e. tt) q a b c n p (Failed f) g.sent tt tt);
+    told = λ once. sent-each IsTold (λ e. tt) q a b c n p (Failed f) g.sent tt tt;
+  };
+  last = record { before = before_send g.sent; node = n; piece = p; last = trip-added q a b c n p (Failed f) g.sent };
+}
 
 pub served-once : (q : Asking) (a b c : Stands) (n : ℕ) (p : Piece) (rs : List Reply) → Goes q a b c n p (Done rs) → ServedOnce q a c rs
-served-once q a b c n p rs g =
-    let s = Send n p (Done rs) in
-    let v = g.found in
-    let w = trip-step q b c s g.of g.sends in
-    record {
-      got = v.got ++ accepted_by s;
-      trip = trip-then q a b c v.got (accepted_by s) 0 0 0 0 v.trip w;
-      whole = then-each (IsWholeOf q) q a b c v.got (accepted_by s) 0 0 0 0 v.trip w v.held.0 (step-each (IsWholeOf q) (λ e. tt) q b c s g.of g.sends g.whole);
-      told = λ once. then-each IsTold q a b c v.got (accepted_by s) 0 0 0 0 v.trip w (v.told once) (step-each IsTold (λ e. tt) q b c s g.of g.sends tt);
-      last = record {
-        before = v.trip.path.added ++ map Moved g.sends.moves;
-        idle = each-append IsIdle v.trip.path.added (map Moved g.sends.moves) v.held.1 (each-moved IsIdle (λ e. tt) g.sends.moves);
-        node = n;
-        piece = p;
-        last = after-all v.trip.path.added (map Moved g.sends.moves) w.path.added (Did s) _ (step-added q b c s g.of g.sends) (then-added q a b c v.got (accepted_by s) 0 0 0 0 v.trip w);
-      };
-    }
+served-once q a b c n p rs g = record {
+  got = accepted_by (Send n p (Done rs));
+  trip = sent-trip q a b c n p (Done rs) g.sent;
+  whole = sent-each (IsWholeOf q) (λ e. tt) q a b c n p (Done rs) g.sent g.holds g.whole;
+  told = λ once. sent-each IsTold (λ e. tt) q a b c n p (Done rs) g.sent tt tt;
+  last = record {
+    before = before_send g.sent;
+    idle = before-each IsIdle (λ e. tt) q a b c n p (Done rs) g.sent tt;
+    node = n;
+    piece = p;
+    last = trip-added q a b c n p (Done rs) g.sent;
+  };
+}
 
 pub lost-once : (q : Asking) (a b c : Stands) (n : ℕ) (p : Piece) → Goes q a b c n p Lost → LostOnce q a c
-lost-once q a b c n p g =
-    let s = Send n p Lost in
-    let v = g.found in
-    let w = trip-step q b c s g.of g.sends in
-    record {
-      got = v.got ++ [];
-      trip = trip-then q a b c v.got [] 0 0 0 1 v.trip w;
-      held = (
-        then-each (IsWholeOf q) q a b c v.got [] 0 0 0 1 v.trip w v.held.0 (step-each (IsWholeOf q) (λ e. tt) q b c s g.of g.sends g.whole),
-        then-each IsIdle q a b c v.got [] 0 0 0 1 v.trip w v.held.1 (step-each IsIdle (λ e. tt) q b c s g.of g.sends tt),
-      );
-      before = v.trip.path.added ++ map Moved g.sends.moves;
-      told = λ once. each-append IsTold v.trip.path.added (map Moved g.sends.moves) (v.told once) (each-moved IsTold (λ e. tt) g.sends.moves);
-      node = n;
-      piece = p;
-      last = after-all v.trip.path.added (map Moved g.sends.moves) w.path.added (Did s) _ (step-added q b c s g.of g.sends) (then-added q a b c v.got [] 0 0 0 1 v.trip w);
-    }
+lost-once q a b c n p g = record {
+  got = [];
+  trip = sent-trip q a b c n p Lost g.sent;
+  held = (sent-each (IsWholeOf q) (λ e. tt) q a b c n p Lost g.sent g.holds g.whole, sent-each IsIdle (λ e. tt) q a b c n p Lost g.sent tt tt);
+  before = before_send g.sent;
+  told = λ once. before-each IsTold (λ e. tt) q a b c n p Lost g.sent tt;
+  node = n;
+  piece = p;
+  last = trip-added q a b c n p Lost g.sent;
+}

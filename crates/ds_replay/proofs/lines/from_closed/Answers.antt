@@ -1,4 +1,3 @@
-use Rattle.std.proofs.Common.{refl}
 use Rattle.ds_replay.proofs.Takings.{asked-closed-taken, begin-taken, count-closed, more, one-more, write-closed-taken}
 use Rattle.ds_replay.proofs.lines.from_closed.Goals as goal
 
@@ -18,4 +17,4 @@ returns-in_ok-ask-in-Batch-clause-within c =
 
 pub returns-in_ok-ask-in-Batch-clause-taken : goal.returns-in_ok-ask-in-Batch-clause-taken
 returns-in_ok-ask-in-Batch-clause-taken c =
-    asked-closed-taken c.args.sim c.ask.new.sim c.args.begun c.args.sender.now.budget c.in-Batch.batch c.in-Batch.block c.args.numbered.now c.args.log.now c.ask.new.log c.in-Batch.is c.requires.built c.in_ok-ask-in-Batch.ensures.asked
+    asked-closed-taken c.args.sim c.ask.new.sim c.args.begun c.args.sender.now.budget c.in-Batch.batch c.in-Batch.block c.args.numbered.now c.args.log.now c.ask.new.log c.in-Batch.is c.requires.built c.requires.tries c.in_ok-ask-in-Batch.ensures.asked

@@ -1,4 +1,3 @@
-use Rattle.std.proofs.Common.{refl}
 use Rattle.ds_replay.proofs.Takings.{asked-open-taken, close-taken, count-open, more, one-more, write-open-taken}
 use Rattle.ds_replay.proofs.lines.from_open.Goals as goal
 
@@ -14,7 +13,7 @@ returns-in_ok-ask-in-Batch-clause-within c =
 
 pub returns-in_ok-ask-in-Batch-clause-taken : goal.returns-in_ok-ask-in-Batch-clause-taken
 returns-in_ok-ask-in-Batch-clause-taken c =
-    asked-open-taken c.args.sim c.ask.new.sim c.args.txn c.args.begun c.args.sender.now.budget c.in-Batch.batch c.in-Batch.block c.args.numbered.now c.args.log.now c.ask.new.log c.in-Batch.is c.requires.built c.requires.within.2 c.in_ok-ask-in-Batch.ensures.asked
+    asked-open-taken c.args.sim c.ask.new.sim c.args.txn c.args.begun c.args.sender.now.budget c.in-Batch.batch c.in-Batch.block c.args.numbered.now c.args.log.now c.ask.new.log c.in-Batch.is c.requires.built c.requires.within.2 c.requires.tries c.in_ok-ask-in-Batch.ensures.asked
 
 pub returns-in_ok-note_close-in-Close-clause-taken : goal.returns-in_ok-note_close-in-Close-clause-taken
 returns-in_ok-note_close-in-Close-clause-taken c =

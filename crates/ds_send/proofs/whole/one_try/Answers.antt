@@ -36,7 +36,7 @@ returns-in-Done g c =
     let look = rw c.in-Some.is at c.in_ok-info.ensures.step in
     let holds = holds-whole i.desc.span c.args.span.now (whole_span q.items) c.holds.result true c.requires.whole c.holds.ensures c.if-not-holds.false in
     served-once q a b d i.lease.node c.in_ok-piece.piece c.in-Done.replies
-    (goes q a b d c.span.inside.start i look.0 i.lease.node i.desc.id c.in_ok-piece.piece c.in_ok-replies.field-0 (Done c.in-Done.replies) c.requires.sendable holds look.1 c.in_ok-piece.ensures c.in_ok-replies.ensures c.in-Done.is)
+    (goes q a b d c.span.inside.start i look.0 c.in_ok-piece.piece c.in_ok-replies.field-0 (Done c.in-Done.replies) c.requires.sendable holds look.1 c.in_ok-piece.ensures c.in_ok-replies.ensures c.in-Done.is)
 
 pub returns-in-Failed : goal.returns-in-Failed
 returns-in-Failed g c =
@@ -48,7 +48,7 @@ returns-in-Failed g c =
     let look = rw c.in-Some.is at c.in_ok-info.ensures.step in
     let holds = holds-whole i.desc.span c.args.span.now (whole_span q.items) c.holds.result true c.requires.whole c.holds.ensures c.if-not-holds.false in
     failed-once q a b d i.lease.node c.in_ok-piece.piece c.in-Failed.failure
-    (goes q a b d c.span.inside.start i look.0 i.lease.node i.desc.id c.in_ok-piece.piece c.in_ok-replies.field-0 (Failed c.in-Failed.failure) c.requires.sendable holds look.1 c.in_ok-piece.ensures c.in_ok-replies.ensures c.in-Failed.is)
+    (goes q a b d c.span.inside.start i look.0 c.in_ok-piece.piece c.in_ok-replies.field-0 (Failed c.in-Failed.failure) c.requires.sendable holds look.1 c.in_ok-piece.ensures c.in_ok-replies.ensures c.in-Failed.is)
 
 pub returns-in-Refused : goal.returns-in-Refused
 returns-in-Refused g c =
@@ -60,7 +60,7 @@ returns-in-Refused g c =
     let look = rw c.in-Some.is at c.in_ok-info.ensures.step in
     let holds = holds-whole i.desc.span c.args.span.now (whole_span q.items) c.holds.result true c.requires.whole c.holds.ensures c.if-not-holds.false in
     refused-once q a b d i.lease.node c.in_ok-piece.piece c.in-Refused.field-0
-    (goes q a b d c.span.inside.start i look.0 i.lease.node i.desc.id c.in_ok-piece.piece c.in_ok-replies.field-0 (Refused c.in-Refused.field-0) c.requires.sendable holds look.1 c.in_ok-piece.ensures c.in_ok-replies.ensures c.in-Refused.is)
+    (goes q a b d c.span.inside.start i look.0 c.in_ok-piece.piece c.in_ok-replies.field-0 (Refused c.in-Refused.field-0) c.requires.sendable holds look.1 c.in_ok-piece.ensures c.in_ok-replies.ensures c.in-Refused.is)
 
 pub returns : goal.returns
 returns g c =
@@ -72,4 +72,4 @@ returns g c =
     let look = rw c.in-Some.is at c.in_ok-info.ensures.step in
     let holds = holds-whole i.desc.span c.args.span.now (whole_span q.items) c.holds.result true c.requires.whole c.holds.ensures c.if-not-holds.false in
     lost-once q a b d i.lease.node c.in_ok-piece.piece
-    (goes q a b d c.span.inside.start i look.0 i.lease.node i.desc.id c.in_ok-piece.piece c.in_ok-replies.field-0 Lost c.requires.sendable holds look.1 c.in_ok-piece.ensures c.in_ok-replies.ensures c.in-Lost.is)
+    (goes q a b d c.span.inside.start i look.0 c.in_ok-piece.piece c.in_ok-replies.field-0 Lost c.requires.sendable holds look.1 c.in_ok-piece.ensures c.in_ok-replies.ensures c.in-Lost.is)
