@@ -362,7 +362,9 @@ fn parts_and_pieces_are_copied(rt: HostRuntime) -> Result<(), Fail> {
 
 #[test]
 fn a_table_of_some_kinds(rt: HostRuntime) {
-    let table = KindTable::of([KindName::EndTxn, KindName::Put, KindName::Delete]);
+    let kinds = [KindName::EndTxn, KindName::Put, KindName::Delete];
+    let table = KindTable::of(kinds);
+    assert!(rt; table.kinds == kinds);
     let [end, put, delete] = table.fits;
     assert!(rt; end == [false, false, false]);
     assert!(rt; put == [false, true, true]);
