@@ -2,6 +2,8 @@
 #![tactic(auto)]
 
 mod answer;
+#[cfg(test)]
+mod fault_tests;
 mod status;
 #[cfg(test)]
 mod tests;

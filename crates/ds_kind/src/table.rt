@@ -48,9 +48,10 @@ fn rows<const N: usize>(flags: &[Flags; N]) -> [[bool; N]; N]
     rows
 }
 
-/// The flags of N kinds, and which of them may stand in one part.
+/// N kinds, their flags, and which of them may stand in one part.
 #[derive(Drop)]
 pub struct KindTable<const N: usize> {
+    pub kinds: [KindName; N],
     pub flags: [Flags; N],
     pub fits: [[bool; N]; N],
     ghost made: { fits ≡ map (λ a. map (fit a) flags) flags },
@@ -70,6 +71,7 @@ fn flags_of_all<const N: usize>(kinds: &[KindName; N]) -> [Flags; N]
 impl<const N: usize> KindTable<N> {
     /// The table of these kinds, in this order.
     pub fn of(kinds: [KindName; N]) -> KindTable<N>
+        ensures kinds { result.kinds ≡ kinds.entry }
         ensures flags { result.flags ≡ map flags_of kinds.entry }
         ensures fits { result.fits ≡ fits_of (map flags_of kinds.entry) }
         ensures symmetric { IsSymmetric result.fits }
@@ -77,13 +79,14 @@ impl<const N: usize> KindTable<N> {
     {
         let flags = flags_of_all(&kinds);
         let fits = rows(&flags);
-        KindTable { flags, fits }
+        KindTable { kinds, flags, fits }
     }
 }
 
 impl KindTable<15> {
     /// The table of all kinds, in the order of [`KindName::ALL`].
     pub fn kinds() -> KindTable<15>
+        ensures kinds { result.kinds ≡ all_kinds }
         ensures flags { result.flags ≡ map flags_of all_kinds }
         ensures fits { result.fits ≡ fits_of (map flags_of all_kinds) }
         ensures symmetric { IsSymmetric result.fits }
