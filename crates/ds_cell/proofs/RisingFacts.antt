@@ -1,5 +1,5 @@
 -- What keeps numbers rising.
-use Rattle.std.proofs.Common.{◌≡◌, ℕ, ◌+◌, ◌<◌, ◌≤◌, Bool, true, false, not, cond, List, [], ◌∷◌, refl, sym, ap, ◌∙◌, subst, Option, Some, None, arith, nat_lt, ltb-true, ltb-false, ◌==◌, ◌||◌}
+use Rattle.std.proofs.Common.{◌≡◌, ℕ, ◌+◌, ◌<◌, ◌≤◌, Bool, true, false, not, cond, List, [], ◌∷◌, refl, sym, ap, ◌∙◌, subst, Some, None, arith, nat_lt, ltb-true, ltb-false, ◌==◌, ◌||◌}
 use Rattle.std.proofs.lemmas.Bool.{eqb-false}
 use Rattle.std.specs.List.{filter, find, insert, position_or_len, prefix_len, list_any, fold}
 use Rattle.ds_cell.specs.Seen.{under}
@@ -7,7 +7,6 @@ use Rattle.ds_cell.specs.Change.{place_before, made, with_write}
 use Rattle.ds_cell.specs.Content.{AllAbove, Rises, stamp_of, seq_of}
 use Rattle.ds_cell.specs.declared.entry.Version.{Version}
 use Rattle.ds_cell.specs.declared.entry.Written.{Written}
-use Rattle.ds_base.specs.declared.value.Stamp.{Stamp}
 use Rattle.ds_cell.proofs.Histories.{place-prefix, insert-one}
 
 -- x before the first that passes

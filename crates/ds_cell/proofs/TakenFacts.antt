@@ -1,5 +1,5 @@
 -- What a change took, given back.
-use Rattle.std.proofs.Common.{◌≡◌, ℕ, Bool, true, false, not, cond, List, [], ◌∷◌, ◌++◌, is_some, refl, sym, ap, ◌∙◌, subst, Option, Some, None, arith, nat_lt, ◌==◌, ◌||◌, Result, Ok, Err, OnOk, OnErr}
+use Rattle.std.proofs.Common.{◌≡◌, ℕ, Bool, true, false, not, cond, List, [], ◌∷◌, ◌++◌, is_some, refl, ap, ◌∙◌, Some, None, arith, nat_lt, ◌==◌, ◌||◌, Result, Ok, Err, OnOk, OnErr}
 use Rattle.std.specs.declared.alloc.AllocError.{AllocError}
 use Rattle.std.specs.List.{filter, find, insert, list_any}
 use Rattle.std.proofs.lemmas.Bool.Decides.{nat_tests}

@@ -1,11 +1,10 @@
 -- What a change took from a key, and the key after it is given back.
-use Rattle.std.specs.Prelude.{◌≡◌, ℕ, Bool, not, List, [], ◌∷◌, Option, Some, None, ◌==◌, refl}
+use Rattle.std.specs.Prelude.{◌≡◌, ℕ, Bool, not, List, [], ◌∷◌, None, ◌==◌, refl}
 use Rattle.std.specs.List.{filter, list_any}
 use Rattle.ds_base.specs.declared.value.Stamp.{Stamp}
 use Rattle.ds_cell.specs.declared.entry.Version.{Version}
 use Rattle.ds_cell.specs.declared.entry.Written.{Written}
 use Rattle.ds_cell.specs.declared.taken.Taken.{Taken}
-use Rattle.ds_cell.specs.declared.taken.Taken.TheVariants as Taken
 use Rattle.ds_cell.specs.Content.{Content, no_content}
 
 -- the writes but the one under the number n

@@ -45,7 +45,8 @@ overlaps items r =
 abbrev pub mismatch_rows : World → Piece → List Info
 mismatch_rows w p = take 8 (map (λ r. r.info) (filter (overlaps p.items) (in_order p.dir w.ranges)))
 
--- a record that is committed or aborted takes no more pieces
+-- a record that is committed or aborted takes no more pieces; a transaction without a record is served as if it were
+-- pending, and an end of a transaction is answered here without an effect on its record, as ends aren't built yet
 abbrev pub status_stops : Option TxnRecord → Option Failure
 status_stops None = None
 status_stops (Some t) = by t.status

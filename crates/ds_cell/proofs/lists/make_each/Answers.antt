@@ -1,4 +1,4 @@
-use Rattle.std.proofs.Common.{rules, ◌≡◌, [], ap, ◌∙◌}
+use Rattle.std.proofs.Common.{ap, ◌∙◌}
 use Rattle.ds_cell.specs.Taken.{without_stamps}
 use Rattle.ds_cell.proofs.TakenFacts.{without_none}
 use Rattle.ds_cell.proofs.lists.make_each.Goals as goal

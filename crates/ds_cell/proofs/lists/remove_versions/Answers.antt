@@ -1,4 +1,4 @@
-use Rattle.std.proofs.Common.{rules, ◌≡◌, not, sym, subst}
+use Rattle.std.proofs.Common.{rules, not, sym, subst}
 use Rattle.std.proofs.lemmas.Fn.{filter_same}
 use Rattle.ds_cell.specs.Content.{Rises, stamp_of}
 use Rattle.ds_cell.specs.Taken.{is_among}

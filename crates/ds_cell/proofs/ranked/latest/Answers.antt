@@ -1,4 +1,4 @@
-use Rattle.std.proofs.Common.{rules, arith, ◌≡◌, ◌≤◌, ◌∙◌}
+use Rattle.std.proofs.Common.{rules, ◌≡◌, ◌≤◌, ◌∙◌}
 use Rattle.ds_cell.proofs.Ranks.{latest_none, latest_some}
 use Rattle.ds_cell.proofs.ranked.latest.Goals as goal
 

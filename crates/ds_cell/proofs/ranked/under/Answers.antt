@@ -1,4 +1,4 @@
-use Rattle.std.proofs.Common.{rules, ◌≡◌, sym, ◌∙◌}
+use Rattle.std.proofs.Common.{sym, ◌∙◌}
 use Rattle.ds_cell.proofs.Ranks.{under_same, under_other, under_none}
 use Rattle.ds_cell.proofs.ranked.under.Goals as goal
 

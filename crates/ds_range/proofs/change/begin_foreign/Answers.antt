@@ -1,7 +1,7 @@
 use Rattle.std.proofs.Common.{rules, ◌≡◌}
 use Rattle.std.specs.BTreeMap.{insert_entry}
 use Rattle.ds_base.specs.Order.{key_cmp}
-use Rattle.ds_cell.specs.Content.{Content, no_content}
+use Rattle.ds_cell.specs.Content.{no_content}
 use Rattle.ds_cell.specs.Change.{after_foreign}
 use Rattle.ds_range.proofs.Covering.{begun_covers}
 use Rattle.ds_range.proofs.Maps.{changed_new}

@@ -1,6 +1,5 @@
-use Rattle.std.proofs.Common.{rules, ◌≡◌, ◌++◌, ◌∷◌, [], ap}
-use Rattle.ds_range.specs.Keeps.{put_back, kept_keys}
-use Rattle.ds_range.proofs.Maps.{kept_more, keys_more}
+use Rattle.std.proofs.Common.{rules, ◌≡◌, ◌++◌, ◌∷◌, []}
+use Rattle.ds_range.proofs.Maps.{kept_more}
 use Rattle.ds_range.proofs.keep.change_kept.Goals as goal
 
 pub returns-in-Ok-clause-back : goal.returns-in-Ok-clause-back

@@ -1,4 +1,4 @@
-use Rattle.std.proofs.Common.{rules, ◌≡◌, ◌++◌, ◌∷◌, ◌+◌, drop, subst, sym, ap, ◌∙◌}
+use Rattle.std.proofs.Common.{◌≡◌, ◌++◌, ◌∷◌, ◌+◌, drop, subst, sym, ap, ◌∙◌}
 use Rattle.ds_range.specs.Covers.{Covers}
 use Rattle.std.proofs.lemmas.List.{drop_more}
 use Rattle.ds_range.proofs.settle.note_all.Goals as goal

@@ -1,4 +1,4 @@
-use Rattle.std.proofs.Common.{rules, ◌≡◌, ◌≤◌, length, arith, ap, ◌∙◌, map}
+use Rattle.std.proofs.Common.{◌≤◌, length, arith, ap, ◌∙◌, map}
 use Rattle.ds_cell.specs.Ask.{key_of}
 use Rattle.ds_range.proofs.Covering.{among_first, among_take, among_keys, among_done, covers_done}
 use Rattle.ds_range.proofs.settle.settle_each.Goals as goal

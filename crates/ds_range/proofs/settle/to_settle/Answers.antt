@@ -1,4 +1,3 @@
-use Rattle.std.proofs.Common.{rules, ◌≡◌}
 use Rattle.ds_range.proofs.Covering.{all_keys_if}
 use Rattle.ds_range.proofs.settle.to_settle.Goals as goal
 

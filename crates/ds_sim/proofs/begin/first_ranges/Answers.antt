@@ -1,4 +1,4 @@
-use Rattle.std.proofs.Common.{rules, ◌≡◌, ◌++◌, ◌∷◌, [], ◌+◌, drop, get_or, true, arith}
+use Rattle.std.proofs.Common.{rules, ◌≡◌, ◌++◌, ◌∷◌, [], ◌+◌, drop, arith}
 use Rattle.ds_rule.specs.Begin.{next_start}
 use Rattle.ds_sim.proofs.Begins.{next_range, next_end, one_range_more, later_rise}
 use Rattle.ds_sim.proofs.begin.first_ranges.Goals as goal

@@ -1,4 +1,3 @@
-use Rattle.std.proofs.Common.{rules}
 use Rattle.ds_range.proofs.Covering.{covers_if}
 use Rattle.ds_range.proofs.state.RangeState.foreign.Goals as goal
 
