@@ -6,6 +6,8 @@ pub mod body;
 pub mod cell;
 mod control;
 pub mod entry;
+#[cfg(test)]
+mod kinds_tests;
 mod lists;
 mod ranked;
 mod reads;

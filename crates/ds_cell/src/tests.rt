@@ -16,7 +16,7 @@ use std::alloc::Global;
 use std::test::Fail;
 
 // Transaction 1 at stamp 10.
-fn at(seq: u32) -> At {
+pub(crate) fn at(seq: u32) -> At {
     At {
         stamp: Stamp(10),
         txn: TxnNo(1),
@@ -99,7 +99,7 @@ fn an_init_put_wants_its_own_value(rt: HostRuntime) -> Result<(), Fail> {
     );
     let same = init_put(alloc, &mut cell, 1);
     assert!(rt; matches!(same, Ok(Bit::Nothing)));
-    assert!(rt; sees(&cell, at(1), 1));
+    assert!(rt; sees(&cell, at(1), 1) && cell.has_writes());
     Ok(())
 }
 
