@@ -21,9 +21,6 @@ place-prefix p xs =
       | false ↦ λ e. let low : position_or_len p xs ≤ length xs = place_within p xs in let high : length xs ≤ position_or_len p xs = ltb-false _ _ e in omega arith
     ] refl
 
-pub place_in_range : {X : Type 0} (p : X → Bool) (xs : List X) → place_before p xs ≤ length xs
-place_in_range p xs = rw (place-prefix p xs) (place_within p xs)
-
 fits_yes : (z : ℤ) → FitsSigned w64 z → fits_i64 z ≡ true
 fits_yes (pos n) h = grind (arith, nat_tests)
 fits_yes (negsuc n) h = grind (arith, nat_tests)

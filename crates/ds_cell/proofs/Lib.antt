@@ -8,4 +8,3 @@ pub mod ReplyFacts
 pub mod RequestLaws
 pub mod RisingFacts
 pub mod TakenFacts
-pub mod WriteFacts

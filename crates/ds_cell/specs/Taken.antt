@@ -36,3 +36,9 @@ the_version_that_was_made_goes = refl
 
 the_write_under_the_number_goes : (given_back (Taken.Write (record { 0 = 3 })) (record no_content { history = record { seq = record { 0 = 2 }; value = None } ∷ record { seq = record { 0 = 3 }; value = None } ∷ [] })).history ≡ record { seq = record { 0 = 2 }; value = None } ∷ []
 the_write_under_the_number_goes = refl
+
+not_a_write_under_another_number : (given_back (Taken.Write (record { 0 = 3 })) (record no_content { history = record { seq = record { 0 = 2 }; value = None } ∷ [] })).history ≡ [] → ⊥
+not_a_write_under_another_number h = cc
+
+nor_a_version_at_another_stamp : (given_back (Taken.Intent no_content (record { 0 = 2 } ∷ [])) (record no_content { versions = at_one ∷ at_two ∷ [] })).versions ≡ [] → ⊥
+nor_a_version_at_another_stamp h = cc
