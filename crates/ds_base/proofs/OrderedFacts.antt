@@ -7,7 +7,8 @@ use Rattle.std.specs.declared.cmp.Ordering.TheVariants.{Less, Equal, Greater}
 use Rattle.std.specs.FinMap.{nat_cmp-IsAntisymmetric, slice_cmp-IsAntisymmetric}
 use Rattle.std.proofs.lemmas.Cmp.{nat_list_cmp_total, tied_itself}
 use Rattle.ds_base.specs.Order.{key_cmp, key_lt, key_le, holds}
-use Rattle.ds_base.proofs.KeyOrder.{key_le-not_lt, key_lt-trans, key_lt-irrefl, key_le_lt-trans, key_le-antisymm, not-key_le, and_first, and_second}
+use Rattle.ds_base.proofs.KeyOrder.{key_le-not_lt, key_lt-trans, key_lt-irrefl, key_le_lt-trans, key_le-antisymm, not-key_le}
+use Rattle.ds_base.proofs.SmallFacts.{and_first, and_second, less_not_equal, none_some, some_same}
 use Rattle.ds_base.specs.Ordered.{key_eq, AllOver, AllFrom, AllBelow, Ascends, at_key, between}
 
 -- tests on keys
@@ -54,13 +55,8 @@ eq_same a b h = slice_cmp-IsAntisymmetric nat_cmp-IsAntisymmetric a b (is_equal 
 pub eq_itself : (a : List ℕ) → key_eq a a ≡ true
 eq_itself a = ap is_eq (tied_itself nat_list_cmp_total a)
 
-less_not_eq : (o : Ordering) → is_lt o ≡ true → is_eq o ≡ false
-less_not_eq Less h = refl
-less_not_eq Equal h = sym h
-less_not_eq Greater h = refl
-
 pub lt_not_eq : (a b : List ℕ) → key_lt a b ≡ true → key_eq a b ≡ false
-lt_not_eq a b h = less_not_eq _ h
+lt_not_eq a b h = less_not_equal _ h
 
 -- b is above a, so it is not a
 pub gt_not_eq : (a b : List ℕ) → key_lt a b ≡ true → key_eq b a ≡ false
@@ -94,12 +90,6 @@ at-none f k (x ∷ xs) all =
 
 at-head : {X : Type 0} (f : X → List ℕ) (x : X) (xs : List X) → at_key f (f x) (x ∷ xs) ≡ Some x
 at-head f x xs = ap (λ t. cond t (Some x) (at_key f (f x) xs)) (eq_itself (f x))
-
-none_some : {X : Type 0} {G : Type 0} (x : X) → None ≡ Some x → G
-none_some x h = cc
-
-some_same : {X : Type 0} (x y : X) → Some x ≡ Some y → x ≡ y
-some_same x y h = cc
 
 -- at each key the tails agree too
 tails : {X : Type 0} (f : X → List ℕ) (x : X) (xs ys : List X) → AllOver f (f x) xs → AllOver f (f x) ys → ((k : List ℕ) → at_key f k (x ∷ xs) ≡ at_key f k (x ∷ ys)) → (k : List ℕ) → at_key f k xs ≡ at_key f k ys

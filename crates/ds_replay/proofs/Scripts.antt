@@ -1,7 +1,7 @@
 -- Whole scripts, one line after another.
 use Rattle.std.proofs.Common.{◌≡◌, ℕ, zero, suc, get_or, ◌+◌, ◌<◌, ◌≤◌, Bool, true, false, ◌&&◌, List, [], ◌∷◌, ◌++◌, length, take, drop, Option, Some, None, IsSome, nat_lt, nat_le, refl, sym, ap, ◌∙◌, subst, arith}
 use Rattle.std.proofs.lemmas.Bool.Decides.{nat_tests}
-use Rattle.ds_base.proofs.KeyOrder.{and_first, and_second}
+use Rattle.ds_base.proofs.SmallFacts.{and_first, and_second}
 use Rattle.ds_cell.specs.Store.{Store, empty_store}
 use Rattle.ds_rule.specs.declared.journal.Entry.{Entry}
 use Rattle.ds_rule.proofs.Trips.{each-append}

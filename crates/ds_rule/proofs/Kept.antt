@@ -4,7 +4,7 @@ use Rattle.std.specs.List.{list_all}
 use Rattle.ds_base.specs.Order.{holds}
 use Rattle.ds_base.specs.Ordered.{between}
 use Rattle.ds_base.specs.declared.value.Value.{Value}
-use Rattle.ds_base.proofs.KeyOrder.{and_first, and_second}
+use Rattle.ds_base.proofs.SmallFacts.{and_first, and_second}
 use Rattle.ds_kind.specs.Reach.{Reach, At, Over, extent_of}
 use Rattle.ds_kind.specs.Request.{reach_of, span_of}
 use Rattle.ds_kind.specs.declared.batch.Head.{Head}

@@ -3,7 +3,7 @@ use Rattle.std.proofs.Common.{◌≡◌, ℕ, Bool, true, false, cond, List, [],
 use Rattle.std.specs.List.{find}
 use Rattle.ds_base.specs.Order.{key_lt, key_le, holds}
 use Rattle.ds_base.specs.Ordered.{key_eq, Ascends, at_key, between}
-use Rattle.ds_base.proofs.KeyOrder.{and_first, and_second}
+use Rattle.ds_base.proofs.SmallFacts.{and_first, and_second}
 use Rattle.ds_base.proofs.OrderedFacts.{eq_same, le_trans, at_key-between}
 use Rattle.ds_cell.specs.Ask.{Cells, key_of, content_of, content_at}
 use Rattle.ds_rule.specs.Deliver.{replaced}

@@ -3,7 +3,8 @@ use Rattle.std.proofs.Common.{◌≡◌, ℕ, Bool, true, false, cond, not, List
 use Rattle.std.specs.List.{find}
 use Rattle.ds_base.specs.Order.{key_lt, key_le}
 use Rattle.ds_base.specs.Ordered.{AllOver, AllFrom, AllBelow, Ascends, between}
-use Rattle.ds_base.proofs.KeyOrder.{key_le-not_lt, key_lt-irrefl, and_first, and_second}
+use Rattle.ds_base.proofs.KeyOrder.{key_le-not_lt, key_lt-irrefl}
+use Rattle.ds_base.proofs.SmallFacts.{and_first, and_second}
 use Rattle.ds_base.proofs.OrderedFacts.{le_of_lt, le_trans, lt_le_trans, over-append, cut-append, none-from, none-below}
 use Rattle.ds_cell.specs.Ask.{Cell, key_of}
 use Rattle.ds_rule.specs.World.{Range, start_of, end_of, contents, Inside, Tiles}

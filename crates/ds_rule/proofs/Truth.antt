@@ -4,7 +4,7 @@ use Rattle.std.specs.List.{find, list_all}
 use Rattle.ds_base.specs.Order.{key_lt, key_le}
 use Rattle.ds_base.specs.Ordered.{Ascends, between}
 use Rattle.ds_base.specs.declared.value.TxnNo.{TxnNo}
-use Rattle.ds_base.proofs.KeyOrder.{and_first, and_second}
+use Rattle.ds_base.proofs.SmallFacts.{and_first, and_second}
 use Rattle.ds_desc.specs.declared.meta.Looked.TheVariants as Looked
 use Rattle.ds_kind.specs.Asks.{is_get_or_scan}
 use Rattle.ds_kind.specs.Reach.{extent_of}

@@ -2,7 +2,8 @@
 use Rattle.std.proofs.Common.{◌≡◌, ℕ, ◌<◌, true, cond, List, [], ◌∷◌, ◌++◌, None, refl, sym, ap, ◌∙◌, subst, append_assoc, eq-eqb, ne_eqb, arith}
 use Rattle.std.specs.List.{list_all}
 use Rattle.ds_base.specs.Order.{key_lt}
-use Rattle.ds_base.proofs.KeyOrder.{below-after, and_first, and_second}
+use Rattle.ds_base.proofs.KeyOrder.{below-after}
+use Rattle.ds_base.proofs.SmallFacts.{and_first, and_second}
 use Rattle.ds_kind.specs.Asks.{has_proper_span, is_proper}
 use Rattle.ds_kind.specs.Parts.{requests_of}
 use Rattle.ds_kind.specs.Reach.{Reach, At, Over, extent_of}

@@ -3,7 +3,7 @@ use Rattle.std.proofs.Common.{◌≡◌, ℕ, Bool, true, false, cond, ◌&&◌,
 use Rattle.ds_base.specs.Order.{key_lt, key_le, holds, after}
 use Rattle.ds_base.specs.Ordered.{between}
 use Rattle.ds_base.specs.declared.value.Value.{Value}
-use Rattle.ds_base.proofs.KeyOrder.{and_first, and_second}
+use Rattle.ds_base.proofs.SmallFacts.{and_first, and_second}
 use Rattle.ds_base.proofs.OrderedFacts.{le_trans, lt_le_trans}
 use Rattle.ds_kind.specs.Reach.{Reach, At as Point, Over, extent_of}
 use Rattle.ds_kind.specs.Request.{reach_of, span_of}

@@ -5,7 +5,8 @@ use Rattle.std.specs.declared.cmp.Ordering.{Ordering}
 use Rattle.std.specs.declared.cmp.Ordering.TheVariants.{Less, Equal, Greater}
 use Rattle.ds_base.specs.Order.{Extent, key_lt, key_le, min_key, holds, after, bound, IsKey}
 use Rattle.ds_base.specs.declared.value.Dir.TheVariants.{Forward}
-use Rattle.ds_base.proofs.KeyOrder.{after-above, and_first, and_second, point-holds}
+use Rattle.ds_base.proofs.KeyOrder.{after-above, point-holds}
+use Rattle.ds_base.proofs.SmallFacts.{and_first, and_second}
 use Rattle.ds_base.proofs.OrderedFacts.{le_of_lt, le_of_not_lt, lt_le_trans}
 use Rattle.ds_desc.specs.declared.desc.Info.{Info}
 use Rattle.ds_desc.specs.declared.meta.Looked.TheVariants as Looked

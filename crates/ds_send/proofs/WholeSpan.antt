@@ -2,7 +2,8 @@
 use Rattle.std.proofs.Common.{◌≡◌, ℕ, Bool, true, false, cond, ◌&&◌, List, [], ◌∷◌, refl, ap, ◌∙◌}
 use Rattle.std.specs.List.{list_all}
 use Rattle.ds_base.specs.Order.{Extent, key_lt, key_le, min_key, max_key}
-use Rattle.ds_base.proofs.KeyOrder.{and_first, and_second, key_le_lt-trans}
+use Rattle.ds_base.proofs.KeyOrder.{key_le_lt-trans}
+use Rattle.ds_base.proofs.SmallFacts.{and_first, and_second}
 use Rattle.ds_base.proofs.OrderedFacts.{le_of_lt, le_of_not_lt, le_trans, lt_le_trans}
 use Rattle.ds_kind.specs.Request.{span_of}
 use Rattle.ds_kind.specs.declared.batch.Item.{Item}

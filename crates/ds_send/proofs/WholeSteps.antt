@@ -3,7 +3,8 @@ use Rattle.std.proofs.Common.{◌≡◌, ℕ, ◌+◌, Bool, true, false, List, 
 use Rattle.std.specs.List.{list_all}
 use Rattle.ds_base.specs.Order.{Extent, key_lt}
 use Rattle.ds_base.specs.declared.value.Dir.TheVariants.{Forward}
-use Rattle.ds_base.proofs.KeyOrder.{and_first, and_second, below-after}
+use Rattle.ds_base.proofs.KeyOrder.{below-after}
+use Rattle.ds_base.proofs.SmallFacts.{and_first, and_second}
 use Rattle.ds_desc.specs.Contains.{contains}
 use Rattle.ds_desc.specs.declared.desc.Info.{Info}
 use Rattle.ds_desc.specs.declared.meta.Looked.TheVariants as Looked

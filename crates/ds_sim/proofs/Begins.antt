@@ -12,7 +12,8 @@ use Rattle.ds_base.specs.Order.{key_lt, key_le, bound, holds, IsKey}
 use Rattle.ds_base.specs.declared.value.Dir.{Dir}
 use Rattle.ds_base.specs.declared.value.Dir.TheVariants.{Forward, Reverse}
 use Rattle.std.proofs.lemmas.List.{drop_more, length-drop, reverse-append}
-use Rattle.ds_base.proofs.KeyOrder.{and_first, and_second, key_le-not_lt}
+use Rattle.ds_base.proofs.KeyOrder.{key_le-not_lt}
+use Rattle.ds_base.proofs.SmallFacts.{and_first, and_second}
 use Rattle.ds_base.proofs.OrderedFacts.{le_of_not_lt, not_lt_of_le, not_le_of_lt}
 use Rattle.ds_desc.specs.Contains.{contains, lies_ahead, first_contains}
 use Rattle.ds_rule.specs.declared.cluster.ClusterRange.{ClusterRange}

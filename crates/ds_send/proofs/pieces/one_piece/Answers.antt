@@ -1,6 +1,6 @@
 use Rattle.std.proofs.Common.{◌≡◌, true, refl, sym, ap, ◌∙◌, subst}
 use Rattle.ds_base.specs.Order.{key_lt, key_le}
-use Rattle.ds_base.proofs.KeyOrder.{and_second}
+use Rattle.ds_base.proofs.SmallFacts.{and_second}
 use Rattle.ds_base.proofs.OrderedFacts.{le_trans}
 use Rattle.ds_kind.specs.Request.{cut_to, span_of}
 use Rattle.ds_rule.specs.declared.answer.Answer.TheVariants.{Done, Failed, Refused, Lost}
