@@ -1,5 +1,6 @@
--- Worked examples of the definitions of keys and spans, some that hold and some that must not.
-use Rattle.std.proofs.Common.{◌≡◌, ℕ, true, false, List, [], ◌∷◌, refl, Some, None}
+-- Worked examples of the definitions of keys, spans and counts, some that hold and some that must not.
+use Rattle.std.proofs.Common.{◌≡◌, ℕ, true, false, List, [], ◌∷◌, refl, Some, None, inl, inr, lit<, arith}
+use Rattle.ds_base.specs.Counts.{Rose}
 use Rattle.ds_base.specs.Order.{key_lt, key_le, holds, after, bound, max_key, min_key}
 use Rattle.ds_base.specs.Ordered.{at_key, between}
 use Rattle.ds_base.specs.Number.{weight}
@@ -44,3 +45,19 @@ b_is_found = refl
 
 c_is_not : at_key (λ k. k) (99 ∷ []) ((97 ∷ []) ∷ (98 ∷ []) ∷ []) ≡ None
 c_is_not = refl
+
+-- a count rises, or stands at its last value
+a_count_rises_by_one : Rose 3 4
+a_count_rises_by_one = inl (lit< tt)
+
+at_its_last_value_it_stays : Rose 18446744073709551615 18446744073709551615
+at_its_last_value_it_stays = inr (refl, refl)
+
+elsewhere_it_never_stays : Rose 3 3 → ⊥
+elsewhere_it_never_stays h = omega arith
+
+it_never_falls : Rose 4 3 → ⊥
+it_never_falls h = omega arith
+
+nor_from_its_last_value : Rose 18446744073709551615 0 → ⊥
+nor_from_its_last_value h = omega arith

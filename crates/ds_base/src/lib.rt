@@ -5,8 +5,6 @@ pub mod copies;
 pub mod key;
 pub mod list;
 pub mod span;
-#[cfg(test)]
-mod tests;
 pub mod value;
 
 pub use copies::Copies;

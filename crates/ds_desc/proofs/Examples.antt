@@ -1,26 +1,9 @@
--- Worked examples of the definitions, some that hold and some that must not: counts, and the rows of a lookup.
-use Rattle.std.proofs.Common.{◌≡◌, true, false, [], ◌∷◌, refl, inl, inr, lit<, arith}
+-- Worked examples of the definitions, some that hold and some that must not: the rows of a lookup.
+use Rattle.std.proofs.Common.{◌≡◌, true, false, [], ◌∷◌, refl}
 use Rattle.ds_base.specs.declared.value.Dir.TheVariants.{Forward, Reverse}
 use Rattle.ds_desc.specs.Contains.{FirstContains, lies_ahead}
-use Rattle.ds_desc.specs.Counts.{Rose}
 use Rattle.ds_desc.specs.declared.desc.Info.{Info}
 use Rattle.ds_desc.specs.declared.meta.Looked.TheVariants.{Rows, Lost}
-
--- ---- counts
-
-a_count_rises_by_one : Rose 3 4
-a_count_rises_by_one = inl (lit< tt)
-
-at_its_last_value_it_stays : Rose 18446744073709551615 18446744073709551615
-at_its_last_value_it_stays = inr refl
-
-elsewhere_it_never_stays : Rose 3 3 → ⊥
-elsewhere_it_never_stays h = omega arith
-
-it_never_falls : Rose 4 3 → ⊥
-it_never_falls h = omega arith
-
--- ---- rows
 
 -- a range from b up to m
 abbrev b_to_m : Info

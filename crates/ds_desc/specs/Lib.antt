@@ -1,3 +1,3 @@
 pub mod Contains
-pub mod Counts
+pub mod Descs
 pub mod Replicas

@@ -29,7 +29,7 @@ impl Copies for Looked {
 /// A directory of ranges.
 pub trait Meta {
     ghost use Rattle.ds_desc.specs.Contains.{FirstContains, lies_ahead};
-    ghost use Rattle.ds_desc.specs.Counts.{Rose};
+    ghost use Rattle.ds_base.specs.Counts.{Rose};
     ghost use Rattle.ds_desc.specs.declared.meta.Looked.TheVariants.{Lost};
 
     // how the object after one lookup of a key stands to the object before it, by what was

@@ -48,10 +48,10 @@ impl Nodes {
     }
 
     /// The node at a place, counted from 0; `None` exactly where the place is at least the length.
-    pub fn get(&self, i: usize) -> Option<u8>
-        ensures { result ≡ slice_get self.now i }
+    pub fn get(&self, i: usize) -> Option<&u8>
+        ensures { option_copied result ≡ slice_get self.now i }
     {
-        self.items.as_slice().get(i).copied()
+        self.items.as_slice().get(i)
     }
 
     /// The nodes, to go over.

@@ -1,7 +1,7 @@
 -- What the definitions of specs/ say of small cases.
-use Rattle.std.proofs.Common.{◌≡◌, [], ◌∷◌, Some, true, false, refl, inl, inr, lit<, arith}
-use Rattle.ds_io.specs.Counts.{raised, Rose}
-use Rattle.ds_io.specs.Ends.{EndsExactly}
+use Rattle.std.proofs.Common.{◌≡◌, [], ◌∷◌, Some, true, false, refl, ap, length, length-append, arith}
+use Rattle.ds_io.specs.Counts.{raised}
+use Rattle.ds_io.specs.Ends.{EndsExactly, TookOneMore}
 use Rattle.ds_io.specs.Memory.{is_listed}
 
 pub raised-by_one : raised 3 ≡ 4
@@ -9,18 +9,6 @@ raised-by_one = refl
 
 pub raised-at_last : raised 18446744073709551615 ≡ 18446744073709551615
 raised-at_last = refl
-
-pub rose-by_one : Rose 3 4
-rose-by_one = inl (lit< tt)
-
-pub rose-at_last : Rose 18446744073709551615 18446744073709551615
-rose-at_last = inr (refl, refl)
-
-pub not_risen : Rose 4 4 → ⊥
-not_risen h = omega arith
-
-pub fallen : Rose 18446744073709551615 0 → ⊥
-fallen h = omega arith
 
 pub listed : is_listed 2 (1 ∷ 2 ∷ []) ≡ true
 listed = refl
@@ -36,3 +24,9 @@ no_end_with_one_left h = let e = h.0 refl in cc
 
 pub none_left_to_give : EndsExactly (Some []) 1 → ⊥
 none_left_to_give h = let e = h.1 refl in omega arith
+
+pub three_of_two : TookOneMore 2 (Some (7 ∷ 8 ∷ 9 ∷ 10 ∷ [])) (Some (10 ∷ []))
+three_of_two = (7 ∷ 8 ∷ 9 ∷ [], refl, refl)
+
+pub not_a_fourth : TookOneMore 2 (Some (7 ∷ 8 ∷ 9 ∷ 10 ∷ [])) (Some []) → ⊥
+not_a_fourth h = let longer = ap length h.2 in omega (arith, h.1, longer, length-append h.0 [])

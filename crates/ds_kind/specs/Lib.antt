@@ -1,8 +1,11 @@
 pub mod Asks
+pub mod Bodies
 pub mod Flags
 pub mod Groups
+pub mod Left
 pub mod Numbers
 pub mod Parts
 pub mod Reach
 pub mod Request
 pub mod Table
+pub mod WholeSpan

@@ -1,7 +1,7 @@
 //! The kinds that end transactions, settle intents, and move ranges and leases.
 use crate::flags::Flags;
 use crate::kind::{Bounds, Kind};
-use crate::reply::{Flights, TxnStatus};
+use crate::reply::Flights;
 use ds_base::{Key, TxnNo};
 
 /// Commits or aborts the transaction.
@@ -27,8 +27,6 @@ impl Kind for EndTxn {
     ghost use Rattle.ds_kind.specs.declared.name.KindName.TheVariants.{EndTxn};
 
     type Args = EndTxnArgs;
-
-    type Reply = TxnStatus;
 
     const FLAGS: Flags = Flags {
         write: true,
@@ -63,8 +61,6 @@ impl Kind for ResolveIntent {
 
     type Args = ResolveIntentArgs;
 
-    type Reply = ();
-
     const FLAGS: Flags = Flags {
         write: true,
         repeatable: true,
@@ -98,8 +94,6 @@ impl Kind for ResolveIntentRange {
 
     type Args = ResolveIntentRangeArgs;
 
-    type Reply = ();
-
     const FLAGS: Flags = Flags {
         write: true,
         range: true,
@@ -132,8 +126,6 @@ impl Kind for AdminSplit {
 
     type Args = AdminSplitArgs;
 
-    type Reply = ();
-
     const FLAGS: Flags = Flags {
         alone: true,
         repeatable: true,
@@ -165,8 +157,6 @@ impl Kind for AdminTransferLease {
     ghost use Rattle.ds_kind.specs.declared.name.KindName.TheVariants.{AdminTransferLease};
 
     type Args = AdminTransferLeaseArgs;
-
-    type Reply = ();
 
     const FLAGS: Flags = Flags {
         alone: true,

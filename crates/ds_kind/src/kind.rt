@@ -20,9 +20,6 @@ pub trait Kind {
     /// What a request of the kind is given.
     type Args;
 
-    /// What it answers.
-    type Reply;
-
     /// What it may do.
     const FLAGS: Flags;
 

@@ -2,25 +2,25 @@
 //! replies are made of.
 #![tactic(auto)]
 
-pub mod batch;
-pub mod control;
-pub mod flags;
-pub mod illegal;
-pub mod kind;
+mod batch;
+mod control;
+mod flags;
+mod illegal;
+mod kind;
 pub mod kinds;
-pub mod name;
-pub mod reads;
-pub mod reply;
-pub mod request;
-pub mod table;
-#[cfg(test)]
-mod tests;
-pub mod writes;
+mod left;
+mod name;
+mod reads;
+mod reply;
+mod request;
+mod table;
+mod writes;
 
 pub use batch::{Batch, Head, Item, Items, Part, Parts, Piece, Requests, Seqs};
 pub use flags::Flags;
 pub use illegal::Illegal;
 pub use kind::{Bounds, Kind};
+pub use left::Left;
 pub use name::KindName;
 pub use reply::{Body, Failure, Flight, Flights, Replies, Reply, Row, Rows, TxnStatus};
 pub use request::Request;

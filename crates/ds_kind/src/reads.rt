@@ -1,8 +1,7 @@
 //! The kinds that read.
 use crate::flags::Flags;
 use crate::kind::{Bounds, Kind};
-use crate::reply::Rows;
-use ds_base::{Key, Seq, Value};
+use ds_base::{Key, Seq};
 
 /// Reads the value of one key.
 pub struct Get;
@@ -19,8 +18,6 @@ impl Kind for Get {
     ghost use Rattle.ds_kind.specs.declared.name.KindName.TheVariants.{Get};
 
     type Args = GetArgs;
-
-    type Reply = Option<Value>;
 
     const FLAGS: Flags = Flags {
         read: true,
@@ -55,8 +52,6 @@ impl Kind for Scan {
 
     type Args = ScanArgs;
 
-    type Reply = Rows;
-
     const FLAGS: Flags = Flags {
         read: true,
         range: true,
@@ -90,8 +85,6 @@ impl Kind for ReverseScan {
     ghost use Rattle.ds_kind.specs.declared.name.KindName.TheVariants.{ReverseScan};
 
     type Args = ReverseScanArgs;
-
-    type Reply = Rows;
 
     const FLAGS: Flags = Flags {
         read: true,
@@ -128,8 +121,6 @@ impl Kind for QueryIntent {
     ghost use Rattle.ds_kind.specs.declared.name.KindName.TheVariants.{QueryIntent};
 
     type Args = QueryIntentArgs;
-
-    type Reply = bool;
 
     const FLAGS: Flags = Flags {
         read: true,

@@ -43,21 +43,21 @@ pub enum Request {
 macro_rules! on_kind {
     ($request:expr, $f:ident($($extra:expr),*)) => {
         match $request {
-            $crate::request::Request::Get(args) => $f::<$crate::kinds::Get>($($extra,)* args),
-            $crate::request::Request::Scan(args) => $f::<$crate::kinds::Scan>($($extra,)* args),
-            $crate::request::Request::ReverseScan(args) => $f::<$crate::kinds::ReverseScan>($($extra,)* args),
-            $crate::request::Request::Put(args) => $f::<$crate::kinds::Put>($($extra,)* args),
-            $crate::request::Request::ConditionalPut(args) => $f::<$crate::kinds::ConditionalPut>($($extra,)* args),
-            $crate::request::Request::InitPut(args) => $f::<$crate::kinds::InitPut>($($extra,)* args),
-            $crate::request::Request::Increment(args) => $f::<$crate::kinds::Increment>($($extra,)* args),
-            $crate::request::Request::Delete(args) => $f::<$crate::kinds::Delete>($($extra,)* args),
-            $crate::request::Request::DeleteRange(args) => $f::<$crate::kinds::DeleteRange>($($extra,)* args),
-            $crate::request::Request::EndTxn(args) => $f::<$crate::kinds::EndTxn>($($extra,)* args),
-            $crate::request::Request::QueryIntent(args) => $f::<$crate::kinds::QueryIntent>($($extra,)* args),
-            $crate::request::Request::ResolveIntent(args) => $f::<$crate::kinds::ResolveIntent>($($extra,)* args),
-            $crate::request::Request::ResolveIntentRange(args) => $f::<$crate::kinds::ResolveIntentRange>($($extra,)* args),
-            $crate::request::Request::AdminSplit(args) => $f::<$crate::kinds::AdminSplit>($($extra,)* args),
-            $crate::request::Request::AdminTransferLease(args) => $f::<$crate::kinds::AdminTransferLease>($($extra,)* args),
+            $crate::Request::Get(args) => $f::<$crate::kinds::Get>($($extra,)* args),
+            $crate::Request::Scan(args) => $f::<$crate::kinds::Scan>($($extra,)* args),
+            $crate::Request::ReverseScan(args) => $f::<$crate::kinds::ReverseScan>($($extra,)* args),
+            $crate::Request::Put(args) => $f::<$crate::kinds::Put>($($extra,)* args),
+            $crate::Request::ConditionalPut(args) => $f::<$crate::kinds::ConditionalPut>($($extra,)* args),
+            $crate::Request::InitPut(args) => $f::<$crate::kinds::InitPut>($($extra,)* args),
+            $crate::Request::Increment(args) => $f::<$crate::kinds::Increment>($($extra,)* args),
+            $crate::Request::Delete(args) => $f::<$crate::kinds::Delete>($($extra,)* args),
+            $crate::Request::DeleteRange(args) => $f::<$crate::kinds::DeleteRange>($($extra,)* args),
+            $crate::Request::EndTxn(args) => $f::<$crate::kinds::EndTxn>($($extra,)* args),
+            $crate::Request::QueryIntent(args) => $f::<$crate::kinds::QueryIntent>($($extra,)* args),
+            $crate::Request::ResolveIntent(args) => $f::<$crate::kinds::ResolveIntent>($($extra,)* args),
+            $crate::Request::ResolveIntentRange(args) => $f::<$crate::kinds::ResolveIntentRange>($($extra,)* args),
+            $crate::Request::AdminSplit(args) => $f::<$crate::kinds::AdminSplit>($($extra,)* args),
+            $crate::Request::AdminTransferLease(args) => $f::<$crate::kinds::AdminTransferLease>($($extra,)* args),
         }
     };
 }

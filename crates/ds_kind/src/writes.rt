@@ -1,7 +1,7 @@
 //! The kinds that write a transaction's values.
 use crate::flags::Flags;
 use crate::kind::{Bounds, Kind};
-use ds_base::{Key, Keys, Value};
+use ds_base::{Key, Value};
 
 /// Writes a value.
 pub struct Put;
@@ -19,8 +19,6 @@ impl Kind for Put {
     ghost use Rattle.ds_kind.specs.declared.name.KindName.TheVariants.{Put};
 
     type Args = PutArgs;
-
-    type Reply = ();
 
     const FLAGS: Flags = Flags {
         write: true,
@@ -58,8 +56,6 @@ impl Kind for ConditionalPut {
 
     type Args = ConditionalPutArgs;
 
-    type Reply = ();
-
     const FLAGS: Flags = Flags {
         read: true,
         write: true,
@@ -92,8 +88,6 @@ impl Kind for InitPut {
     ghost use Rattle.ds_kind.specs.declared.name.KindName.TheVariants.{InitPut};
 
     type Args = InitPutArgs;
-
-    type Reply = ();
 
     const FLAGS: Flags = Flags {
         read: true,
@@ -129,8 +123,6 @@ impl Kind for Increment {
 
     type Args = IncrementArgs;
 
-    type Reply = i64;
-
     const FLAGS: Flags = Flags {
         read: true,
         write: true,
@@ -163,8 +155,6 @@ impl Kind for Delete {
 
     type Args = DeleteArgs;
 
-    type Reply = ();
-
     const FLAGS: Flags = Flags {
         write: true,
         txn: true,
@@ -196,8 +186,6 @@ impl Kind for DeleteRange {
     ghost use Rattle.ds_kind.specs.declared.name.KindName.TheVariants.{DeleteRange};
 
     type Args = DeleteRangeArgs;
-
-    type Reply = Keys;
 
     const FLAGS: Flags = Flags {
         read: true,
