@@ -17,10 +17,10 @@ use Rattle.ds_cell.specs.Requests.{deed_of, ask_request}
 use Rattle.ds_cell.specs.Replies.{body_of}
 
 -- transaction 1 at stamp 10
-abbrev me : ℕ → At
+abbrev pub me : ℕ → At
 me n = record { stamp = record { 0 = 10 }; txn = record { 0 = 1 }; seq = record { 0 = n }; epoch = 0 }
 
-abbrev version : ℕ → ℕ → Version
+abbrev pub version : ℕ → ℕ → Version
 version s n = record { stamp = record { 0 = s }; value = Some (Int (pos n)) }
 
 abbrev write : ℕ → ℕ → Written

@@ -1,21 +1,25 @@
 -- What may stand beside a request's writes without a trace for it.
-use Rattle.std.proofs.Common.{◌≡◌, ℕ, ◌≤◌, ◌<◌, Bool, true, false, cond, List, [], ◌∷◌, ◌++◌, take, drop, reverse, refl, sym, ap, ◌∙◌, Option, Some, None, arith, append_assoc, nat_le, nat_lt, ◌==◌}
+use Rattle.std.proofs.Common.{◌≡◌, ℕ, ◌≤◌, ◌<◌, Bool, true, false, cond, List, [], ◌∷◌, ◌++◌, take, drop, reverse, refl, sym, ap, ◌∙◌, subst, Option, Some, None, arith, append_assoc, nat_le, nat_lt, ◌==◌}
 use Rattle.std.specs.List.{find, insert, list_any}
 use Rattle.std.specs.Option.{option_or}
 use Rattle.std.proofs.lemmas.List.{reverse-append, take-append-drop}
 use Rattle.std.proofs.lemmas.List.Folds.{find-append}
 use Rattle.std.proofs.lemmas.Bool.Decides.{nat_tests}
+use Rattle.ds_base.specs.Ordered.{Ascends, key_eq}
+use Rattle.ds_base.proofs.OrderedFacts.{eq_same}
 use Rattle.ds_base.specs.declared.value.Value.{Value}
+use Rattle.ds_kind.specs.Reach.{Reach}
 use Rattle.ds_cell.specs.declared.entry.At.{At}
 use Rattle.ds_cell.specs.declared.entry.Version.{Version}
 use Rattle.ds_cell.specs.declared.entry.Written.{Written}
 use Rattle.ds_cell.specs.Content.{Content}
 use Rattle.ds_cell.specs.Seen.{last_where, last_of, own, held, newest, under, version_at}
 use Rattle.ds_cell.specs.Change.{place_before, wrote, made, foreign_by, after_foreign}
-use Rattle.ds_cell.specs.declared.verdict.Verdict.{Verdict}
-use Rattle.ds_cell.specs.Deed.{content_after}
-use Rattle.ds_cell.specs.Laws.{IsLater, RepeatLaw, BesideLaw}
+use Rattle.ds_cell.specs.Laws.{IsLater, Asks, RepeatLaw, BesideLaw}
 use Rattle.ds_cell.specs.LawProofs.{own-wrote}
+use Rattle.ds_cell.specs.Ask.{Cells, key_of, content_at}
+use Rattle.ds_cell.specs.Store.{put_cell, write_all}
+use Rattle.ds_cell.specs.StoreProofs.{ascends-insert, put-itself, put-other}
 
 find-skip : {X : Type 0} (p : X → Bool) (xs : List X) (x : X) (ys : List X) → p x ≡ false → find p (xs ++ x ∷ ys) ≡ find p (xs ++ ys)
 find-skip p xs x ys out =
@@ -90,6 +94,28 @@ later_foreign_by at (Some w) v c above = record { version = refl; writes = λ n 
 pub later_foreign : (at : At) (v : Version) (c : Content) → at.stamp.0 < v.stamp.0 → IsLater at c (after_foreign v c)
 later_foreign at v c above = later_foreign_by at (last_of c.history) v c above
 
-pub beside_all : (d : At → Content → Verdict) → RepeatLaw d → BesideLaw d
-beside_all d repeat at next w c txn epoch above =
-    repeat at c (wrote next w (content_after at (d at c) c)) (later_write at next w (content_after at (d at c) c) txn epoch above)
+pub ascends-written : (at : At) (ws : List (List ℕ × Option Value)) (cells : Cells) → Ascends key_of cells → Ascends key_of (write_all at ws cells)
+ascends-written at [] cells asc = asc
+ascends-written at (w ∷ ws) cells asc = ascends-written at ws (put_cell w.0 (wrote at w.1) cells) (ascends-insert w.0 _ cells asc)
+
+-- writes of the transaction under a later number, wherever they stand
+later_put : (at next : At) (q k : List ℕ) (w : Option Value) (cells : Cells) → next.txn.0 ≡ at.txn.0 → next.epoch ≡ at.epoch → at.seq.0 < next.seq.0 → IsLater at (content_at k cells) (content_at k (put_cell q (wrote next w) cells))
+later_put at next q k w cells txn epoch above =
+    elim (key_eq q k) as (λ t. key_eq q k ≡ t → IsLater at (content_at k cells) (content_at k (put_cell q (wrote next w) cells))) [
+      | true ↦ λ e.
+          subst (λ z. IsLater at (content_at z cells) (content_at z (put_cell q (wrote next w) cells))) (eq_same q k e)
+          (subst (IsLater at (content_at q cells)) (sym (put-itself q (wrote next w) cells)) (later_write at next w (content_at q cells) txn epoch above))
+      | false ↦ λ e. subst (IsLater at (content_at k cells)) (sym (put-other q k (wrote next w) cells e)) (later_itself at (content_at k cells))
+    ] refl
+
+pub later_writes : (at next : At) (k : List ℕ) (vs : List (List ℕ × Option Value)) (cells : Cells) → next.txn.0 ≡ at.txn.0 → next.epoch ≡ at.epoch → at.seq.0 < next.seq.0 → IsLater at (content_at k cells) (content_at k (write_all next vs cells))
+later_writes at next k [] cells txn epoch above = later_itself at (content_at k cells)
+later_writes at next k (v ∷ vs) cells txn epoch above =
+    later_again at _ _ _ (later_put at next v.0 k v.1 cells txn epoch above)
+    (later_writes at next k vs (put_cell v.0 (wrote next v.1) cells) txn epoch above)
+
+pub beside_all : {A : Type 0} (reach : A → Reach) (ask : Asks A) (a : A) → RepeatLaw reach ask a → BesideLaw ask a
+beside_all reach ask a repeat at next cells b ws vs asc txn epoch above gave =
+    repeat at cells (write_all next vs (write_all at ws cells)) b ws asc
+    (ascends-written next vs (write_all at ws cells) (ascends-written at ws cells asc)) gave
+    (λ k here. later_writes at next k vs (write_all at ws cells) txn epoch above)

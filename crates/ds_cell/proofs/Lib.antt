@@ -1,10 +1,9 @@
-pub mod ByKey
 pub mod Examples
+pub mod ExamplesOfLaws
 pub mod Histories
 pub mod LaterFacts
 pub mod LatestFacts
 pub mod Ranks
 pub mod ReplyFacts
-pub mod RequestLaws
 pub mod RisingFacts
 pub mod TakenFacts

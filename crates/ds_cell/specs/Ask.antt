@@ -65,7 +65,12 @@ places (Over s e) cells = between key_of s e cells
 abbrev pub ask_at : (Content → Verdict) → Reach → Cells → Asked
 ask_at d r cells = ask_each d (places r cells)
 
+-- the span holds the key of each of these
+abbrev pub AllIn : {X : Type 0} → (X → List ℕ) → List ℕ → List ℕ → List X → Type 0
+AllIn f s e [] = Unit {0}
+AllIn f s e (x ∷ xs) = (holds s e (f x) ≡ true) × AllIn f s e xs
+
 -- answers, writes and the fault stand at keys of the span
 abbrev pub StandsIn : List ℕ → List ℕ → Asked → Type 0
 StandsIn s e (Failed k f) = holds s e k ≡ true
-StandsIn s e (Gave bs ws) = (between key_of s e bs ≡ bs) × (between key_of s e ws ≡ ws)
+StandsIn s e (Gave bs ws) = AllIn key_of s e bs × AllIn key_of s e ws

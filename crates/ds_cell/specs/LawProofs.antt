@@ -1,17 +1,16 @@
--- The laws of a kind, proved once for all kinds.
+-- What the laws of a kind need, proved once for all kinds. It stands here since the laws of the trait `Acts` cite it.
 use Rattle.std.proofs.Common.{◌≡◌, ℕ, ◌≤◌, zero, suc, Bool, true, false, not, cond, ◌&&◌, List, [], ◌∷◌, ◌++◌, take, drop, Option, Some, None, refl, sym, ap, ◌∙◌, subst, arith, ◌==◌, eq-eqb, nat_le, leb-true, is_some}
 use Rattle.std.specs.List.{find, insert}
 use Rattle.std.specs.Option.{option_or}
 use Rattle.std.proofs.lemmas.List.Folds.{find-append}
-use Rattle.ds_base.specs.Order.{key_lt, holds, after}
-use Rattle.ds_base.specs.Ordered.{between}
+use Rattle.ds_base.specs.Order.{key_lt, key_le, holds, after}
+use Rattle.ds_base.specs.Ordered.{Ascends, between}
 use Rattle.ds_base.proofs.KeyOrder.{key_le-not_lt, key_lt-irrefl, below-after}
 use Rattle.ds_base.proofs.OrderedFacts.{cut}
 use Rattle.ds_base.specs.declared.value.Value.{Value}
 use Rattle.ds_base.specs.declared.value.Stamp.{Stamp}
-use Rattle.ds_kind.specs.Flags.{is_numbered}
-use Rattle.ds_kind.specs.declared.flags.Flags.{Flags}
-use Rattle.ds_cell.specs.declared.entry.At.{At}
+use Rattle.ds_kind.specs.Reach.{Reach, At, Over, extent_of}
+use Rattle.ds_cell.specs.declared.entry.At.{At as Who}
 use Rattle.ds_cell.specs.declared.entry.Written.{Written}
 use Rattle.ds_cell.specs.declared.verdict.Verdict.{Verdict}
 use Rattle.ds_cell.specs.declared.verdict.Verdict.TheVariants.{Keep, Put, Refuse}
@@ -20,8 +19,8 @@ use Rattle.ds_cell.specs.Content.{Content}
 use Rattle.ds_cell.specs.Seen.{seen, newest, under, own, too_old, value_seen, version_at}
 use Rattle.ds_cell.specs.Change.{wrote}
 use Rattle.ds_cell.specs.Deed.{Sight, sight, deed, decide, guarded, look_of, prior, content_after}
-use Rattle.ds_cell.specs.Ask.{Cells, key_of, Asked, Failed, Gave, one_more, ask_each, joined, StandsIn}
-use Rattle.ds_cell.specs.Laws.{JoinLaw, PointLaw, IsLater, Repeats, RepeatLaw, AllLater, RepeatSpanLaw, ReadsLaw, StaysLaw, NoWrites, FlagLaw, IsCoherent, WritesIf}
+use Rattle.ds_cell.specs.Ask.{Cells, key_of, Asked, Failed, Gave, one_more, ask_each, ask, joined, content_at, places, ask_at, AllIn, StandsIn}
+use Rattle.ds_cell.specs.Laws.{IsLater, Repeats, KeyRepeats, IsCoherent, WritesIf}
 
 -- join
 
@@ -43,7 +42,7 @@ ask_each-append d [] ys = joined-empty (ask_each d ys)
 ask_each-append d (p ∷ ps) ys =
     ap (one_more p.0 (d p.1)) (ask_each-append d ps ys) ∙ one_more-joined p.0 (d p.1) (ask_each d ps) (ask_each d ys)
 
-pub join_all : (d : Content → Verdict) → JoinLaw d
+pub join_all : (d : Content → Verdict) (s m e : List ℕ) (cells : Cells) → Ascends key_of cells → key_le s m ≡ true → key_le m e ≡ true → ask d s e cells ≡ joined (ask d s m cells) (ask d m e cells)
 join_all d s m e cells asc sm me =
     ap (ask_each d) (cut key_of s m e cells asc sm me) ∙ ask_each-append d (between key_of s m cells) (between key_of m e cells)
 
@@ -53,43 +52,30 @@ pub own_span : (k : List ℕ) → holds k (after k) k ≡ true
 own_span k =
     ap (λ t. t && key_lt k (after k)) (key_le-not_lt k k ∙ ap not (key_lt-irrefl k)) ∙ below-after k
 
-pub point_all : (d : Content → Verdict) → PointLaw d
-point_all d k c = ap (λ t. ask_each d (cond t ((k, c) ∷ []) [])) (own_span k)
-
 -- extent
 
-pub reads_all : (d : Content → Verdict) → ReadsLaw d
-reads_all d s e cells others same = ap (ask_each d) same
-
-abbrev AllIn : {X : Type 0} → List ℕ → List ℕ → List (List ℕ × X) → Type 0
-AllIn s e [] = Unit {0}
-AllIn s e (x ∷ xs) = (holds s e x.0 ≡ true) × AllIn s e xs
-
-all_between : {X : Type 0} (s e : List ℕ) (xs : List (List ℕ × X)) → AllIn s e (between key_of s e xs)
+all_between : {X : Type 0} (s e : List ℕ) (xs : List (List ℕ × X)) → AllIn key_of s e (between key_of s e xs)
 all_between s e [] = tt
 all_between s e (x ∷ xs) =
-    elim (holds s e x.0) as (λ t. holds s e x.0 ≡ t → AllIn s e (cond t (x ∷ between key_of s e xs) (between key_of s e xs))) [
+    elim (holds s e x.0) as (λ t. holds s e x.0 ≡ t → AllIn key_of s e (cond t (x ∷ between key_of s e xs) (between key_of s e xs))) [
       | true ↦ λ h. (h, all_between s e xs)
       | false ↦ λ h. all_between s e xs
     ] refl
-
-one_kept : {X : Type 0} (t : Bool) (x : X) (xs ys : List X) → t ≡ true → xs ≡ ys → cond t (x ∷ xs) xs ≡ x ∷ ys
-one_kept true x xs ys h e = ap (λ zs. x ∷ zs) e
-one_kept false x xs ys h e = cc
 
 stands_more : (s e k : List ℕ) (v : Verdict) (r : Asked) → holds s e k ≡ true → StandsIn s e r → StandsIn s e (one_more k v r)
 stands_more s e k (Refuse f) r h a = h
 stands_more s e k (Keep b) (Failed q f) h a = a
 stands_more s e k (Put w b) (Failed q f) h a = a
-stands_more s e k (Keep b) (Gave bs ws) h a = (one_kept _ (k, b) _ bs h a.0, a.1)
-stands_more s e k (Put w b) (Gave bs ws) h a = (one_kept _ (k, b) _ bs h a.0, one_kept _ (k, w) _ ws h a.1)
+stands_more s e k (Keep b) (Gave bs ws) h a = ((h, a.0), a.1)
+stands_more s e k (Put w b) (Gave bs ws) h a = ((h, a.0), (h, a.1))
 
-stands_each : (d : Content → Verdict) (s e : List ℕ) (ps : Cells) → AllIn s e ps → StandsIn s e (ask_each d ps)
-stands_each d s e [] all = (refl, refl)
+stands_each : (d : Content → Verdict) (s e : List ℕ) (ps : Cells) → AllIn key_of s e ps → StandsIn s e (ask_each d ps)
+stands_each d s e [] all = (tt, tt)
 stands_each d s e (p ∷ ps) all = stands_more s e p.0 (d p.1) (ask_each d ps) all.0 (stands_each d s e ps all.1)
 
-pub stays_all : (d : Content → Verdict) → StaysLaw d
-stays_all d s e cells = stands_each d s e (between key_of s e cells) (all_between s e cells)
+pub stands_at : (d : Content → Verdict) (r : Reach) (cells : Cells) → StandsIn (extent_of r).start (extent_of r).end (ask_at d r cells)
+stands_at d (At k) cells = stands_each d k (after k) ((k, content_at k cells) ∷ []) (own_span k, tt)
+stands_at d (Over s e) cells = stands_each d s e (between key_of s e cells) (all_between s e cells)
 
 -- flags
 
@@ -106,30 +92,24 @@ decide-put : (o : Option Written) (again : Option Value → Bit) (t : Option Sta
 decide-put (Some x) again t v w b h = cc
 decide-put None again t v w b h = guarded-put t v w b h
 
-keeps_none : (k : List ℕ) (v : Verdict) (r : Asked) → ((w : Option Value) (b : Bit) → v ≡ Put w b → ⊥) → NoWrites r → NoWrites (one_more k v r)
+-- it wrote nothing
+abbrev pub WroteNothing : Asked → Type 0
+WroteNothing (Failed k f) = Unit {0}
+WroteNothing (Gave bs ws) = ws ≡ []
+
+keeps_none : (k : List ℕ) (v : Verdict) (r : Asked) → ((w : Option Value) (b : Bit) → v ≡ Put w b → ⊥) → WroteNothing r → WroteNothing (one_more k v r)
 keeps_none k (Keep b) (Failed q f) never h = tt
 keeps_none k (Keep b) (Gave bs ws) never h = h
 keeps_none k (Put w b) r never h = absurd (never w b refl)
 keeps_none k (Refuse f) r never h = tt
 
-no_writes : (d : Content → Verdict) (cells : Cells) → ((c : Content) (w : Option Value) (b : Bit) → d c ≡ Put w b → ⊥) → NoWrites (ask_each d cells)
+no_writes : (d : Content → Verdict) (cells : Cells) → ((c : Content) (w : Option Value) (b : Bit) → d c ≡ Put w b → ⊥) → WroteNothing (ask_each d cells)
 no_writes d [] never = refl
 no_writes d (p ∷ ps) never = keeps_none p.0 (d p.1) (ask_each d ps) (never p.1) (no_writes d ps never)
 
-pub flags_all : (flag n : Bool) (judge : Sight → Verdict) (again : Option Value → Bit) (at : At) → WritesIf flag judge → FlagLaw flag (deed n judge again at)
-flags_all flag n judge again at only s e cells off =
-    no_writes _ (between key_of s e cells) (λ c w b h. absurd_false flag (only _ w b (decide-put (prior n at c) again (too_old at c) _ w b h)) off)
-
-first_of : (p q : Bool) → (p && q) ≡ true → p ≡ true
-first_of true q h = refl
-first_of false q h = h
-
--- what takes a number is flagged write
-pub numbered_writes : (f : Flags) → is_numbered f ≡ true → f.write ≡ true
-numbered_writes f h = first_of f.write f.txn (first_of (f.write && f.txn) (not f.alone) h)
-
-pub writes_only : (f : Flags) (judge : Sight → Verdict) → WritesIf (is_numbered f) judge → WritesIf f.write judge
-writes_only f judge only g w b h = numbered_writes f (only g w b h)
+pub flags_all : (flag n : Bool) (judge : Sight → Verdict) (again : Option Value → Bit) (at : Who) (r : Reach) (cells : Cells) → WritesIf flag judge → flag ≡ false → WroteNothing (ask_at (deed n judge again at) r cells)
+flags_all flag n judge again at r cells only off =
+    no_writes _ (places r cells) (λ c w b h. absurd_false flag (only _ w b (decide-put (prior n at c) again (too_old at c) _ w b h)) off)
 
 -- repeat
 
@@ -153,7 +133,7 @@ under-insert s i w h none here =
     ∙ ap (λ t. cond t (Some w) (under s (drop i h))) here
 
 -- after a write the writes of its transaction and epoch are those that stand there
-pub own-wrote : (at at' : At) (w : Option Value) (c : Content) → at'.txn.0 ≡ at.txn.0 → at'.epoch ≡ at.epoch → own at (wrote at' w c) ≡ (wrote at' w c).history
+pub own-wrote : (at at' : Who) (w : Option Value) (c : Content) → at'.txn.0 ≡ at.txn.0 → at'.epoch ≡ at.epoch → own at (wrote at' w c) ≡ (wrote at' w c).history
 own-wrote at at' w c txn epoch =
     ap (λ t. cond t (cond (at'.txn.0 == at.txn.0) (wrote at' w c).history []) []) (same_number at'.epoch at.epoch epoch)
     ∙ ap (λ t. cond t (wrote at' w c).history []) (same_number at'.txn.0 at.txn.0 txn)
@@ -162,18 +142,18 @@ pub guarded-keep : (t : Option Stamp) (b : Bit) → guarded t (Keep b) ≡ Keep 
 guarded-keep None b = refl
 guarded-keep (Some t) b = refl
 
-seen-later : (at : At) (n : ℕ) (c c' : Content) → IsLater at c c' → n ≤ at.seq.0 → seen at n c' ≡ seen at n c
+seen-later : (at : Who) (n : ℕ) (c c' : Content) → IsLater at c c' → n ≤ at.seq.0 → seen at n c' ≡ seen at n c
 seen-later at n c c' later low =
     ap (value_seen (newest n (own at c'))) later.version ∙ ap (λ w. value_seen w (version_at at.stamp.0 c.versions)) (later.writes n low)
 
-found-later : (at : At) (look n : ℕ) (c c' : Content) → IsLater at c c' → look ≤ at.seq.0 → (nat_le n look && is_some (under n (own at c'))) ≡ (nat_le n look && is_some (under n (own at c)))
+found-later : (at : Who) (look n : ℕ) (c c' : Content) → IsLater at c c' → look ≤ at.seq.0 → (nat_le n look && is_some (under n (own at c'))) ≡ (nat_le n look && is_some (under n (own at c)))
 found-later at look n c c' later low =
     elim (nat_le n look) as (λ t. nat_le n look ≡ t → (t && is_some (under n (own at c'))) ≡ (t && is_some (under n (own at c)))) [
       | true ↦ λ e. let h : n ≤ look = leb-true _ _ e in ap is_some (later.numbers n (omega arith))
       | false ↦ λ e. refl
     ] refl
 
-pub sight-later : (at : At) (look : ℕ) (c c' : Content) → IsLater at c c' → look ≤ at.seq.0 → sight at look c' ≡ sight at look c
+pub sight-later : (at : Who) (look : ℕ) (c c' : Content) → IsLater at c c' → look ≤ at.seq.0 → sight at look c' ≡ sight at look c
 sight-later at look c c' later low =
     λ i. record { value = seen-later at look c c' later low i; found = λ n. found-later at look n c c' later low i }
 
@@ -181,11 +161,11 @@ look_low : (n : Bool) (s : ℕ) → look_of n s ≤ s
 look_low true s = omega arith
 look_low false s = omega arith
 
-prior-later : (n : Bool) (at : At) (c c' : Content) → IsLater at c c' → prior n at c' ≡ prior n at c
+prior-later : (n : Bool) (at : Who) (c c' : Content) → IsLater at c c' → prior n at c' ≡ prior n at c
 prior-later true at c c' later = later.numbers at.seq.0 (omega arith)
 prior-later false at c c' later = refl
 
-repeat_keep : (n : Bool) (judge : Sight → Verdict) (again : Option Value → Bit) (at : At) (c c' : Content) (b : Bit)
+repeat_keep : (n : Bool) (judge : Sight → Verdict) (again : Option Value → Bit) (at : Who) (c c' : Content) (b : Bit)
     → prior n at c ≡ None → judge (sight at (look_of n at.seq.0) c) ≡ Keep b → IsLater at c c' → deed n judge again at c' ≡ Keep b
 repeat_keep n judge again at c c' b po pv later =
     ap (λ o. decide o again (too_old at c') (judge (sight at (look_of n at.seq.0) c'))) (prior-later n at c c' later ∙ po)
@@ -193,7 +173,7 @@ repeat_keep n judge again at c c' b po pv later =
     ∙ ap (guarded (too_old at c')) pv
     ∙ guarded-keep (too_old at c') b
 
-repeat_put : (n : Bool) (judge : Sight → Verdict) (again : Option Value → Bit) (at : At) (c c' : Content) (w : Option Value) (b : Bit)
+repeat_put : (n : Bool) (judge : Sight → Verdict) (again : Option Value → Bit) (at : Who) (c c' : Content) (w : Option Value) (b : Bit)
     → n ≡ true → again w ≡ b → prior n at c ≡ None → IsLater at (wrote at w c) c' → deed n judge again at c' ≡ Keep b
 repeat_put true judge again at c c' w b counts same po later =
     ap (λ o. decide o again (too_old at c') (judge (sight at (look_of true at.seq.0) c')))
@@ -205,7 +185,7 @@ repeat_put false judge again at c c' w b counts same po later = cc
 
 -- what a repeat gives, by the write under the number, the stamp in the way, and the verdict
 repeat_by : (n : Bool) (judge : Sight → Verdict) (again : Option Value → Bit) → IsCoherent judge again → WritesIf n judge
-    → (at : At) (c c' : Content) (o : Option Written) (t : Option Stamp) (v : Verdict)
+    → (at : Who) (c c' : Content) (o : Option Written) (t : Option Stamp) (v : Verdict)
     → prior n at c ≡ o → too_old at c ≡ t → judge (sight at (look_of n at.seq.0) c) ≡ v
     → IsLater at (content_after at (decide o again t v) c) c' → Repeats (decide o again t v) (deed n judge again at c')
 repeat_by n judge again coherent only at c c' (Some w) t v po pt pv later =
@@ -218,52 +198,6 @@ repeat_by n judge again coherent only at c c' None None (Put w b) po pt pv later
 repeat_by n judge again coherent only at c c' None (Some t) (Refuse f) po pt pv later = tt
 repeat_by n judge again coherent only at c c' None None (Refuse f) po pt pv later = tt
 
-pub repeat_all : (n : Bool) (judge : Sight → Verdict) (again : Option Value → Bit) → IsCoherent judge again → WritesIf n judge → RepeatLaw (deed n judge again)
+pub repeat_all : (n : Bool) (judge : Sight → Verdict) (again : Option Value → Bit) → IsCoherent judge again → WritesIf n judge → KeyRepeats (deed n judge again)
 repeat_all n judge again coherent only at c c' later =
     repeat_by n judge again coherent only at c c' _ _ _ refl refl refl later
-
--- repeat, over a span
-
--- what one more key gave, taken apart
-abbrev Parted : List ℕ → Verdict → Asked → List (List ℕ × Bit) → List (List ℕ × Option Value) → Type 0
-Parted k v r bs ws =
-    (b : Bit) × (cs : List (List ℕ × Bit)) × (vs : List (List ℕ × Option Value))
-    × ((v' : Verdict) → Repeats v v' → v' ≡ Keep b) × (r ≡ Gave cs vs) × (bs ≡ (k, b) ∷ cs)
-
-gave_bits : (cs bs : List (List ℕ × Bit)) (us vs : List (List ℕ × Option Value)) → Gave cs us ≡ Gave bs vs → bs ≡ cs
-gave_bits cs bs us vs h = cc
-
-parted : (k : List ℕ) (v : Verdict) (r : Asked) (bs : List (List ℕ × Bit)) (ws : List (List ℕ × Option Value)) → one_more k v r ≡ Gave bs ws → Parted k v r bs ws
-parted k (Refuse f) r bs ws h = cc
-parted k (Keep b) (Failed q f) bs ws h = cc
-parted k (Put w b) (Failed q f) bs ws h = cc
-parted k (Keep b) (Gave cs vs) bs ws h = (b, cs, vs, λ v' same. same, refl, gave_bits _ bs _ ws h)
-parted k (Put w b) (Gave cs vs) bs ws h = (b, cs, vs, λ v' same. same, refl, gave_bits _ bs _ ws h)
-
-repeat_each : (d : At → Content → Verdict) → RepeatLaw d → (at : At) (ps qs : Cells) (bs : List (List ℕ × Bit)) (ws : List (List ℕ × Option Value)) → AllLater at (d at) ps qs → ask_each (d at) ps ≡ Gave bs ws → ask_each (d at) qs ≡ Gave bs []
-repeat_each d law at [] [] bs ws all h = ap (λ cs. Gave cs []) (sym (gave_bits [] bs [] ws h))
-repeat_each d law at [] (q ∷ qs) bs ws all h = absurd all
-repeat_each d law at (p ∷ ps) [] bs ws all h = absurd all
-repeat_each d law at (p ∷ ps) (q ∷ qs) bs ws all h =
-    let x = parted p.0 (d at p.1) (ask_each (d at) ps) bs ws h in
-    let again : d at q.1 ≡ Keep x.0 = x.3 (d at q.1) (law at p.1 q.1 all.1) in
-    let rest : ask_each (d at) qs ≡ Gave x.1 [] = repeat_each d law at ps qs x.1 x.2 all.2 x.4 in
-    ap (λ v. one_more q.0 v (ask_each (d at) qs)) again
-    ∙ ap (one_more q.0 (Keep x.0)) rest
-    ∙ ap (λ k. Gave ((k, x.0) ∷ x.1) []) all.0
-    ∙ ap (λ cs. Gave cs []) (sym x.5)
-
-later_between : (d : Content → Verdict) (at : At) (s e : List ℕ) (ps qs : Cells) → AllLater at d ps qs → AllLater at d (between key_of s e ps) (between key_of s e qs)
-later_between d at s e [] [] all = tt
-later_between d at s e [] (q ∷ qs) all = absurd all
-later_between d at s e (p ∷ ps) [] all = absurd all
-later_between d at s e (p ∷ ps) (q ∷ qs) all =
-    let more : AllLater at d (between key_of s e ps) (between key_of s e qs) = later_between d at s e ps qs all.2 in
-    elim (holds s e p.0) as (λ t. holds s e q.0 ≡ t → AllLater at d (cond t (p ∷ between key_of s e ps) (between key_of s e ps)) (cond (holds s e q.0) (q ∷ between key_of s e qs) (between key_of s e qs))) [
-      | true ↦ λ h. subst (λ u. AllLater at d (p ∷ between key_of s e ps) (cond u (q ∷ between key_of s e qs) (between key_of s e qs))) (sym h) (all.0, all.1, more)
-      | false ↦ λ h. subst (λ u. AllLater at d (between key_of s e ps) (cond u (q ∷ between key_of s e qs) (between key_of s e qs))) (sym h) more
-    ] (ap (holds s e) all.0)
-
-pub repeat_span_all : (d : At → Content → Verdict) → RepeatLaw d → RepeatSpanLaw d
-repeat_span_all d law at s e cells later bs ws all h =
-    repeat_each d law at (between key_of s e cells) (between key_of s e later) bs ws (later_between (d at) at s e cells later all) h

@@ -81,17 +81,3 @@ body_of (ResolveIntent a) bits = Done
 body_of (ResolveIntentRange a) bits = Done
 body_of (AdminSplit a) bits = Done
 body_of (AdminTransferLease a) bits = Done
-
--- the body over a span of the bodies over its two cuts, the lower first
-abbrev pub join_rows : Bool → List Row → Body → Body
-join_rows down xs (Rows ys) = Rows (if down then ys ++ xs else xs ++ ys)
-join_rows down xs _ = Rows xs
-
-abbrev pub join_keys : List (List ℕ) → Body → Body
-join_keys xs (Keys ys) = Keys (xs ++ ys)
-join_keys xs _ = Keys xs
-
-abbrev pub join_bodies : Bool → Body → Body → Body
-join_bodies down (Rows xs) b = join_rows down xs b
-join_bodies down (Keys xs) b = join_keys xs b
-join_bodies down a b = a

@@ -4,6 +4,7 @@ use Rattle.ds_base.specs.Order.{holds}
 use Rattle.ds_base.specs.Ordered.{Ascends}
 use Rattle.ds_kind.specs.declared.request.Request.{Request}
 use Rattle.ds_kind.specs.declared.request.Request.TheVariants.{Get, Scan, ReverseScan, Put, ConditionalPut, InitPut, Increment, Delete, DeleteRange, EndTxn, QueryIntent, ResolveIntent, ResolveIntentRange, AdminSplit, AdminTransferLease}
+use Rattle.ds_kind.specs.Bodies.{join_bodies}
 use Rattle.ds_kind.specs.Flags.{flags_of}
 use Rattle.ds_kind.specs.Request.{kind_of, reach_of, span_of}
 use Rattle.ds_cell.specs.declared.entry.At.{At}
@@ -14,7 +15,9 @@ use Rattle.ds_cell.specs.Content.{Content}
 use Rattle.ds_cell.specs.Deed.{deed}
 use Rattle.ds_cell.specs.Ask.{Cells, key_of, Asked, Failed, Gave, content_at, ask_at}
 use Rattle.ds_cell.specs.Kinds.{judge_nothing, judge_read, judge_query, judge_put, judge_conditional, judge_init, judge_increment, judge_delete, judge_delete_range, nothing, shown, gone}
-use Rattle.ds_cell.specs.Replies.{Bits, body_of, join_bodies}
+use Rattle.ds_kind.specs.Bodies.{join_bodies}
+use Rattle.ds_cell.specs.Replies.{Bits, body_of}
+use Rattle.ds_cell.specs.Responses.{Response, respond}
 
 abbrev pub deed_of : Request → At → Content → Verdict
 deed_of (Get a) = deed false judge_read nothing
@@ -36,6 +39,10 @@ deed_of (AdminTransferLease a) = deed false judge_nothing nothing
 -- a request asked over contents by key, over all of its span at once
 abbrev pub ask_request : Request → At → Cells → Asked
 ask_request r at cells = ask_at (deed_of r at) (reach_of r) cells
+
+-- what it is answered, and what it writes
+abbrev pub respond_to : Request → At → Cells → Response
+respond_to r at cells = respond (body_of r) (ask_request r at cells)
 
 -- a request over a span has the joined bodies of its two cuts
 abbrev pub BodyLaw : Request → Type 0

@@ -20,24 +20,38 @@ fn guarded(in_the_way: Option<Stamp>, verdict: Verdict) -> Verdict
     }
 }
 
-/// A kind that acts on keys. Its meaning is [`judge`](Acts::judge), what it decides by what it sees of a
-/// key, and [`again`](Acts::again), what it answers for a write that it made before. From these two
-/// follow [`act`](Acts::act), its meaning on a span, and its laws.
+/// A kind that acts on keys. Its meaning is `ask`: what a request of it is answered over its own span,
+/// and what it writes there. Every law speaks of that. Key by key it is decided by
+/// [`judge`](Acts::judge), by what it sees of a key, and [`again`](Acts::again), what it answers for a
+/// write that it made before.
 pub trait Acts: Kind {
+    ghost use Rattle.std.specs.Prelude.{ℕ, List};
     ghost use Rattle.ds_base.specs.declared.value.Value.{Value};
     ghost use Rattle.ds_kind.specs.Flags.{is_numbered};
+    ghost use Rattle.ds_kind.specs.declared.reply.Body.{Body};
     ghost use Rattle.ds_cell.specs.declared.verdict.Verdict.{Verdict};
     ghost use Rattle.ds_cell.specs.declared.verdict.Bit.{Bit};
     ghost use Rattle.ds_cell.specs.declared.entry.At.{At};
     ghost use Rattle.ds_cell.specs.Deed.{Sight, sight, deed, content_after, IsBitOf, IsFaultOf};
-    ghost use Rattle.ds_cell.specs.Laws.{JoinLaw, PointLaw, RepeatLaw, RepeatSpanLaw, ReadsLaw, StaysLaw, FlagLaw, IsCoherent, WritesIf};
-    ghost use Rattle.ds_cell.specs.LawProofs.{join_all, point_all, repeat_all, repeat_span_all, reads_all, stays_all, flags_all, writes_only};
+    ghost use Rattle.ds_cell.specs.Ask.{Cells};
+    ghost use Rattle.ds_cell.specs.Replies.{Bits};
+    ghost use Rattle.ds_cell.specs.Responses.{Response};
+    ghost use Rattle.ds_cell.specs.Laws.{Lawful, AsksEach, JoinLaw, PointLaw, CutLaw, RepeatLaw, ReadsLaw, StaysLaw, FlagLaw, WritesIf};
 
-    // what the kind decides by what it sees
+    // what a request of these arguments is answered over its span, and what it writes there
+    ghost ask: { Self.Args → At → Cells → Response };
+
+    // the same request on the part of its span from a start up to an end
+    ghost cut: { List ℕ → List ℕ → Self.Args → Self.Args };
+
+    // what the kind decides by what it sees of a key
     ghost judge: { Self.Args → Sight → Verdict };
 
     // what it answers for a write that it made before
     ghost again: { Option Value → Bit };
+
+    // the reply's body, made of the answers at the keys
+    ghost body: { Self.Args → Bits → Body };
 
     /// What the kind decides by what a request at `at` sees of a key up to the number `look`. The one
     /// refusal is want of memory.
@@ -101,21 +115,23 @@ pub trait Acts: Kind {
         }
     }
 
-    ghost coherent: { (a : Self.Args) → IsCoherent (judge a) again };
-
     ghost flagged: { (a : Self.Args) → WritesIf (is_numbered Self.FLAGS) (judge a) };
 
-    ghost join: { (a : Self.Args) (at : At) → JoinLaw (deed (is_numbered Self.FLAGS) (judge a) again at) } = { λ a at. join_all _ };
+    ghost lawful: { (a : Self.Args) → Lawful Self.FLAGS (λ b. deed (is_numbered Self.FLAGS) (judge b) again) body Self.reach cut ask a };
 
-    ghost point: { (a : Self.Args) (at : At) → PointLaw (deed (is_numbered Self.FLAGS) (judge a) again at) } = { λ a at. point_all _ };
+    ghost asks: { (a : Self.Args) → AsksEach (λ b. deed (is_numbered Self.FLAGS) (judge b) again) body Self.reach ask a } = { λ a. (lawful a).0 };
 
-    ghost repeat: { (a : Self.Args) → RepeatLaw (deed (is_numbered Self.FLAGS) (judge a) again) } = { λ a. repeat_all _ _ _ (coherent a) (flagged a) };
+    ghost join: { (a : Self.Args) → JoinLaw Self.FLAGS.reverse Self.reach cut ask a } = { λ a. (lawful a).1 };
 
-    ghost repeat_span: { (a : Self.Args) → RepeatSpanLaw (deed (is_numbered Self.FLAGS) (judge a) again) } = { λ a. repeat_span_all _ (repeat a) };
+    ghost point: { (a : Self.Args) → PointLaw (λ b. deed (is_numbered Self.FLAGS) (judge b) again) body Self.reach cut ask a } = { λ a. (lawful a).2 };
 
-    ghost reads: { (a : Self.Args) (at : At) → ReadsLaw (deed (is_numbered Self.FLAGS) (judge a) again at) } = { λ a at. reads_all _ };
+    ghost cuts: { (a : Self.Args) → CutLaw (λ b. deed (is_numbered Self.FLAGS) (judge b) again) body Self.reach cut a } = { λ a. (lawful a).3 };
 
-    ghost stays: { (a : Self.Args) (at : At) → StaysLaw (deed (is_numbered Self.FLAGS) (judge a) again at) } = { λ a at. stays_all _ };
+    ghost repeat: { (a : Self.Args) → RepeatLaw Self.reach ask a } = { λ a. (lawful a).4 };
 
-    ghost writes_if_flagged: { (a : Self.Args) (at : At) → FlagLaw Self.FLAGS.write (deed (is_numbered Self.FLAGS) (judge a) again at) } = { λ a at. flags_all _ _ _ _ at (writes_only Self.FLAGS _ (flagged a)) };
+    ghost reads: { (a : Self.Args) → ReadsLaw Self.reach ask a } = { λ a. (lawful a).5 };
+
+    ghost stays: { (a : Self.Args) → StaysLaw Self.reach ask a } = { λ a. (lawful a).6 };
+
+    ghost writes_if_flagged: { (a : Self.Args) → FlagLaw Self.FLAGS.write ask a } = { λ a. (lawful a).7 };
 }

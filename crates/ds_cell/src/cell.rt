@@ -7,8 +7,8 @@ ghost use Rattle.ds_cell.specs.Change.{wrote, after_foreign, settled};
 ghost use Rattle.ds_cell.specs.Taken.{given_back};
 
 use crate::entry::{At, Version, Written};
-use crate::lists;
 use crate::taken::Taken;
+use crate::{history, versions};
 use ds_base::{Copies, Seq, Stamp, TxnNo, Value};
 use std::alloc::{AllocError, Global};
 use std::marker::Model;
@@ -108,10 +108,10 @@ impl Cell {
     pub(crate) fn seen_up_to(&self, at: At, look: Seq) -> Option<&Value>
         ensures { option_copied result ≡ seen at look.0 self.now }
     {
-        if let Some(write) = lists::newest(self.own(at), look) {
+        if let Some(write) = history::newest(self.own(at), look) {
             return write.value.as_ref();
         }
-        match lists::version_at(self.versions.as_slice(), at.stamp) {
+        match versions::version_at(self.versions.as_slice(), at.stamp) {
             Some(version) => version.value.as_ref(),
             None => None,
         }
@@ -121,7 +121,7 @@ impl Cell {
     pub(crate) fn written(&self, at: At, seq: Seq) -> Option<&Written>
         ensures { option_copied result ≡ under seq.0 (own at self.now) }
     {
-        lists::under(self.own(at), seq)
+        history::under(self.own(at), seq)
     }
 
     // The stamp that stands in the way of a write.
@@ -129,7 +129,7 @@ impl Cell {
         ensures { result ≡ too_old at self.now }
     {
         if self.own(at).is_empty() {
-            lists::newest_from(at.stamp, self.versions.as_slice(), self.waiting.as_slice())
+            versions::newest_from(at.stamp, self.versions.as_slice(), self.waiting.as_slice())
         } else {
             None
         }
@@ -139,7 +139,7 @@ impl Cell {
     pub fn has_writes(&self) -> bool
         ensures { result ≡ is_some (last_of self.now.history) }
     {
-        lists::last_write(self.history.as_slice()).is_some()
+        history::last_write(self.history.as_slice()).is_some()
     }
 
     /// Writes under the request's number, unless a write of its transaction and epoch stands under it
@@ -168,7 +168,7 @@ impl Cell {
         ensures err { OnErr result (self.new ≡ self.old) }
     {
         if self.epoch == at.epoch && self.owner.0 == at.txn.0 {
-            lists::add_write(&mut self.history, written)?;
+            history::add_write(&mut self.history, written)?;
             return Ok(Taken::Write(at.seq));
         }
         let mut history = Vec::new(alloc);
@@ -205,8 +205,8 @@ impl Cell {
         ensures ok { OnOk result (self.new ≡ after_foreign (record { stamp = stamp; value = value }) self.old) }
         ensures err { OnErr result (self.new ≡ self.old) }
     {
-        match lists::last_write(self.history.as_slice()) {
-            None => lists::make(&mut self.versions, Version { stamp, value })?,
+        match history::last_write(self.history.as_slice()) {
+            None => versions::make(&mut self.versions, Version { stamp, value })?,
             Some(_) => self.waiting.push(Version { stamp, value })?,
         }
         Ok(())
@@ -241,11 +241,11 @@ impl Cell {
         ensures back { IfOk result (λ taken. given_back taken self.new ≡ self.old) }
         ensures err { OnErr result (self.new ≡ self.old) }
     {
-        let new = match lists::last_write(self.held(txn)) {
-            Some(last) => lists::settling(alloc, commit, last, self.waiting.as_slice())?,
+        let new = match history::last_write(self.held(txn)) {
+            Some(last) => versions::settling(alloc, commit, last, self.waiting.as_slice())?,
             None => return Ok(Taken::Nothing),
         };
-        let stamps = lists::make_each(alloc, &mut self.versions, new)?;
+        let stamps = versions::make_each(alloc, &mut self.versions, new)?;
         Ok(Taken::Intent(self.take_intent(alloc), stamps))
     }
 
@@ -269,14 +269,14 @@ impl Cell {
     {
         match taken {
             Taken::Nothing => {}
-            Taken::Write(seq) => lists::remove_write(&mut self.history, seq),
+            Taken::Write(seq) => history::remove_write(&mut self.history, seq),
             Taken::Writes(cell) => {
                 self.owner = cell.owner;
                 self.epoch = cell.epoch;
                 self.history = cell.history;
             }
             Taken::Intent(cell, stamps) => {
-                lists::remove_versions(&mut self.versions, &stamps);
+                versions::remove_versions(&mut self.versions, &stamps);
                 self.owner = cell.owner;
                 self.epoch = cell.epoch;
                 self.history = cell.history;
@@ -289,11 +289,11 @@ impl Cell {
 impl Copies for Cell {
     fn copy(&self, alloc: Global) -> Result<Cell, AllocError> {
         Ok(Cell {
-            versions: lists::copy_versions(alloc, self.versions.as_slice())?,
+            versions: versions::copy_versions(alloc, self.versions.as_slice())?,
             owner: self.owner,
             epoch: self.epoch,
-            history: lists::copy_history(alloc, self.history.as_slice())?,
-            waiting: lists::copy_versions(alloc, self.waiting.as_slice())?,
+            history: history::copy_history(alloc, self.history.as_slice())?,
+            waiting: versions::copy_versions(alloc, self.waiting.as_slice())?,
         })
     }
 }

@@ -12,11 +12,21 @@ use ds_kind::kinds::{
 use std::alloc::{AllocError, Global};
 
 impl Acts for EndTxn {
-    ghost use Rattle.ds_cell.specs.Kinds.{judge_nothing, nothing, nothing-coherent, nothing-flagged};
+    ghost use Rattle.ds_kind.specs.declared.request.Request.TheVariants.{EndTxn as Of};
+    ghost use Rattle.ds_cell.specs.Kinds.{judge_nothing, nothing, nothing-flagged};
+    ghost use Rattle.ds_cell.specs.Replies.{body_of};
+    ghost use Rattle.ds_cell.specs.Requests.{respond_to};
+    ghost use Rattle.ds_cell.specs.RequestProofs.{laws_of};
+
+    ghost ask = { λ a. respond_to (Of a) };
+
+    ghost cut = { λ s e a. a };
 
     ghost judge = { λ _. judge_nothing };
 
     ghost again = { nothing };
+
+    ghost body = { λ a. body_of (Of a) };
 
     fn judge(
         _alloc: Global,
@@ -32,17 +42,27 @@ impl Acts for EndTxn {
         Ok(Bit::Nothing)
     }
 
-    ghost coherent = { λ _. nothing-coherent };
-
     ghost flagged = { λ _. nothing-flagged _ };
+
+    ghost lawful = { λ a. laws_of (Of a) };
 }
 
 impl Acts for ResolveIntent {
-    ghost use Rattle.ds_cell.specs.Kinds.{judge_nothing, nothing, nothing-coherent, nothing-flagged};
+    ghost use Rattle.ds_kind.specs.declared.request.Request.TheVariants.{ResolveIntent as Of};
+    ghost use Rattle.ds_cell.specs.Kinds.{judge_nothing, nothing, nothing-flagged};
+    ghost use Rattle.ds_cell.specs.Replies.{body_of};
+    ghost use Rattle.ds_cell.specs.Requests.{respond_to};
+    ghost use Rattle.ds_cell.specs.RequestProofs.{laws_of};
+
+    ghost ask = { λ a. respond_to (Of a) };
+
+    ghost cut = { λ s e a. a };
 
     ghost judge = { λ _. judge_nothing };
 
     ghost again = { nothing };
+
+    ghost body = { λ a. body_of (Of a) };
 
     fn judge(
         _alloc: Global,
@@ -58,17 +78,27 @@ impl Acts for ResolveIntent {
         Ok(Bit::Nothing)
     }
 
-    ghost coherent = { λ _. nothing-coherent };
-
     ghost flagged = { λ _. nothing-flagged _ };
+
+    ghost lawful = { λ a. laws_of (Of a) };
 }
 
 impl Acts for ResolveIntentRange {
-    ghost use Rattle.ds_cell.specs.Kinds.{judge_nothing, nothing, nothing-coherent, nothing-flagged};
+    ghost use Rattle.ds_kind.specs.declared.request.Request.TheVariants.{ResolveIntentRange as Of};
+    ghost use Rattle.ds_cell.specs.Kinds.{judge_nothing, nothing, nothing-flagged};
+    ghost use Rattle.ds_cell.specs.Replies.{body_of};
+    ghost use Rattle.ds_cell.specs.Requests.{respond_to};
+    ghost use Rattle.ds_cell.specs.RequestProofs.{laws_of};
+
+    ghost ask = { λ a. respond_to (Of a) };
+
+    ghost cut = { λ s e a. record a { start = s; end = e } };
 
     ghost judge = { λ _. judge_nothing };
 
     ghost again = { nothing };
+
+    ghost body = { λ a. body_of (Of a) };
 
     fn judge(
         _alloc: Global,
@@ -84,17 +114,27 @@ impl Acts for ResolveIntentRange {
         Ok(Bit::Nothing)
     }
 
-    ghost coherent = { λ _. nothing-coherent };
-
     ghost flagged = { λ _. nothing-flagged _ };
+
+    ghost lawful = { λ a. laws_of (Of a) };
 }
 
 impl Acts for AdminSplit {
-    ghost use Rattle.ds_cell.specs.Kinds.{judge_nothing, nothing, nothing-coherent, nothing-flagged};
+    ghost use Rattle.ds_kind.specs.declared.request.Request.TheVariants.{AdminSplit as Of};
+    ghost use Rattle.ds_cell.specs.Kinds.{judge_nothing, nothing, nothing-flagged};
+    ghost use Rattle.ds_cell.specs.Replies.{body_of};
+    ghost use Rattle.ds_cell.specs.Requests.{respond_to};
+    ghost use Rattle.ds_cell.specs.RequestProofs.{laws_of};
+
+    ghost ask = { λ a. respond_to (Of a) };
+
+    ghost cut = { λ s e a. a };
 
     ghost judge = { λ _. judge_nothing };
 
     ghost again = { nothing };
+
+    ghost body = { λ a. body_of (Of a) };
 
     fn judge(
         _alloc: Global,
@@ -110,17 +150,27 @@ impl Acts for AdminSplit {
         Ok(Bit::Nothing)
     }
 
-    ghost coherent = { λ _. nothing-coherent };
-
     ghost flagged = { λ _. nothing-flagged _ };
+
+    ghost lawful = { λ a. laws_of (Of a) };
 }
 
 impl Acts for AdminTransferLease {
-    ghost use Rattle.ds_cell.specs.Kinds.{judge_nothing, nothing, nothing-coherent, nothing-flagged};
+    ghost use Rattle.ds_kind.specs.declared.request.Request.TheVariants.{AdminTransferLease as Of};
+    ghost use Rattle.ds_cell.specs.Kinds.{judge_nothing, nothing, nothing-flagged};
+    ghost use Rattle.ds_cell.specs.Replies.{body_of};
+    ghost use Rattle.ds_cell.specs.Requests.{respond_to};
+    ghost use Rattle.ds_cell.specs.RequestProofs.{laws_of};
+
+    ghost ask = { λ a. respond_to (Of a) };
+
+    ghost cut = { λ s e a. a };
 
     ghost judge = { λ _. judge_nothing };
 
     ghost again = { nothing };
+
+    ghost body = { λ a. body_of (Of a) };
 
     fn judge(
         _alloc: Global,
@@ -136,7 +186,7 @@ impl Acts for AdminTransferLease {
         Ok(Bit::Nothing)
     }
 
-    ghost coherent = { λ _. nothing-coherent };
-
     ghost flagged = { λ _. nothing-flagged _ };
+
+    ghost lawful = { λ a. laws_of (Of a) };
 }

@@ -23,11 +23,21 @@ pub(crate) fn copy_of(alloc: Global, seen: Option<&Value>) -> Result<Option<Valu
 }
 
 impl Acts for Get {
-    ghost use Rattle.ds_cell.specs.Kinds.{judge_read, nothing, read-coherent, read-flagged};
+    ghost use Rattle.ds_kind.specs.declared.request.Request.TheVariants.{Get as Of};
+    ghost use Rattle.ds_cell.specs.Kinds.{judge_read, nothing, read-flagged};
+    ghost use Rattle.ds_cell.specs.Replies.{body_of};
+    ghost use Rattle.ds_cell.specs.Requests.{respond_to};
+    ghost use Rattle.ds_cell.specs.RequestProofs.{laws_of};
+
+    ghost ask = { λ a. respond_to (Of a) };
+
+    ghost cut = { λ s e a. a };
 
     ghost judge = { λ _. judge_read };
 
     ghost again = { nothing };
+
+    ghost body = { λ a. body_of (Of a) };
 
     fn judge(
         alloc: Global,
@@ -43,17 +53,27 @@ impl Acts for Get {
         Ok(Bit::Nothing)
     }
 
-    ghost coherent = { λ _. read-coherent };
-
     ghost flagged = { λ _. read-flagged };
+
+    ghost lawful = { λ a. laws_of (Of a) };
 }
 
 impl Acts for Scan {
-    ghost use Rattle.ds_cell.specs.Kinds.{judge_read, nothing, read-coherent, read-flagged};
+    ghost use Rattle.ds_kind.specs.declared.request.Request.TheVariants.{Scan as Of};
+    ghost use Rattle.ds_cell.specs.Kinds.{judge_read, nothing, read-flagged};
+    ghost use Rattle.ds_cell.specs.Replies.{body_of};
+    ghost use Rattle.ds_cell.specs.Requests.{respond_to};
+    ghost use Rattle.ds_cell.specs.RequestProofs.{laws_of};
+
+    ghost ask = { λ a. respond_to (Of a) };
+
+    ghost cut = { λ s e a. record a { start = s; end = e } };
 
     ghost judge = { λ _. judge_read };
 
     ghost again = { nothing };
+
+    ghost body = { λ a. body_of (Of a) };
 
     fn judge(
         alloc: Global,
@@ -69,17 +89,27 @@ impl Acts for Scan {
         Ok(Bit::Nothing)
     }
 
-    ghost coherent = { λ _. read-coherent };
-
     ghost flagged = { λ _. read-flagged };
+
+    ghost lawful = { λ a. laws_of (Of a) };
 }
 
 impl Acts for ReverseScan {
-    ghost use Rattle.ds_cell.specs.Kinds.{judge_read, nothing, read-coherent, read-flagged};
+    ghost use Rattle.ds_kind.specs.declared.request.Request.TheVariants.{ReverseScan as Of};
+    ghost use Rattle.ds_cell.specs.Kinds.{judge_read, nothing, read-flagged};
+    ghost use Rattle.ds_cell.specs.Replies.{body_of};
+    ghost use Rattle.ds_cell.specs.Requests.{respond_to};
+    ghost use Rattle.ds_cell.specs.RequestProofs.{laws_of};
+
+    ghost ask = { λ a. respond_to (Of a) };
+
+    ghost cut = { λ s e a. record a { start = s; end = e } };
 
     ghost judge = { λ _. judge_read };
 
     ghost again = { nothing };
+
+    ghost body = { λ a. body_of (Of a) };
 
     fn judge(
         alloc: Global,
@@ -95,17 +125,27 @@ impl Acts for ReverseScan {
         Ok(Bit::Nothing)
     }
 
-    ghost coherent = { λ _. read-coherent };
-
     ghost flagged = { λ _. read-flagged };
+
+    ghost lawful = { λ a. laws_of (Of a) };
 }
 
 impl Acts for QueryIntent {
-    ghost use Rattle.ds_cell.specs.Kinds.{judge_query, nothing, query-coherent, query-flagged};
+    ghost use Rattle.ds_kind.specs.declared.request.Request.TheVariants.{QueryIntent as Of};
+    ghost use Rattle.ds_cell.specs.Kinds.{judge_query, nothing, query-flagged};
+    ghost use Rattle.ds_cell.specs.Replies.{body_of};
+    ghost use Rattle.ds_cell.specs.Requests.{respond_to};
+    ghost use Rattle.ds_cell.specs.RequestProofs.{laws_of};
+
+    ghost ask = { λ a. respond_to (Of a) };
+
+    ghost cut = { λ s e a. a };
 
     ghost judge = { judge_query };
 
     ghost again = { nothing };
+
+    ghost body = { λ a. body_of (Of a) };
 
     fn judge(
         _alloc: Global,
@@ -122,7 +162,7 @@ impl Acts for QueryIntent {
         Ok(Bit::Nothing)
     }
 
-    ghost coherent = { query-coherent };
-
     ghost flagged = { query-flagged };
+
+    ghost lawful = { λ a. laws_of (Of a) };
 }

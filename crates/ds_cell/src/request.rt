@@ -2,14 +2,15 @@
 ghost use Rattle.std.specs.Prelude.{◌≡◌, ◌<◌, Option, IfOk, IfErr};
 ghost use Rattle.ds_base.specs.declared.value.Value.{Value};
 ghost use Rattle.ds_kind.specs.Flags.{is_numbered, flags_of};
-ghost use Rattle.ds_kind.specs.Request.{kind_of};
+ghost use Rattle.ds_kind.specs.Request.{kind_of, reach_of, cut_to};
 ghost use Rattle.ds_cell.specs.declared.entry.Version.{Version};
 ghost use Rattle.ds_cell.specs.Content.{Content};
 ghost use Rattle.ds_cell.specs.Change.{wrote, after_foreign};
 ghost use Rattle.ds_cell.specs.declared.entry.At.{At};
 ghost use Rattle.ds_cell.specs.Deed.{deed, content_after, IsBitOf, IsFaultOf};
-ghost use Rattle.ds_cell.specs.Requests.{deed_of, BodyLaw, StillLaw, KeysLaw};
-ghost use Rattle.ds_cell.specs.Laws.{JoinLaw, PointLaw, RepeatLaw, RepeatSpanLaw, BesideLaw, ReadsLaw, StaysLaw, FlagLaw, IsLater};
+ghost use Rattle.ds_cell.specs.Requests.{deed_of, respond_to, BodyLaw, StillLaw, KeysLaw};
+ghost use Rattle.ds_cell.specs.Replies.{body_of};
+ghost use Rattle.ds_cell.specs.Laws.{AsksEach, JoinLaw, PointLaw, CutLaw, RepeatLaw, BesideLaw, ReadsLaw, StaysLaw, FlagLaw, IsLater};
 
 use crate::acts::Acts;
 use crate::cell::Cell;
@@ -69,20 +70,22 @@ pub fn act_request(
     on_kind!(request, act_by(alloc, key, cell, at))
 }
 
-/// Does nothing: its clauses are the laws of every kind. Asked on a span, a request is the join of
-/// itself on the two cuts, and on the span of one key it is what it does to that key. Asked again
-/// with its number, it changes nothing and answers the same, whatever stands beside by then, as a
-/// write under a later number. It reads only its span, and answers and writes only there. It writes
-/// only if its kind is flagged so.
+/// Does nothing: its clauses are the laws of every kind, each of what a request is answered over its own
+/// span and what it writes there. That is decided at each key as [`Acts::decide`] says, and over one key
+/// of the span it is what [`Acts::act`] does to it. Over a span, it is the join of itself on the two cuts,
+/// reply and writes; and a cut request does the same at each key. Asked again with its number, it
+/// writes nothing and answers the same, whatever stands beside by then, as a write under a later number.
+/// It reads only its span, and answers and writes only there. It writes only if its kind is flagged so.
 pub fn laws<K: Acts>(args: &K::Args)
-    ensures join { (at : At) → JoinLaw (deed (is_numbered K.FLAGS) (K.judge args.now) K.again at) }
-    ensures point { (at : At) → PointLaw (deed (is_numbered K.FLAGS) (K.judge args.now) K.again at) }
-    ensures repeat { RepeatLaw (deed (is_numbered K.FLAGS) (K.judge args.now) K.again) }
-    ensures repeat_span { RepeatSpanLaw (deed (is_numbered K.FLAGS) (K.judge args.now) K.again) }
-    ensures beside { BesideLaw (deed (is_numbered K.FLAGS) (K.judge args.now) K.again) }
-    ensures reads { (at : At) → ReadsLaw (deed (is_numbered K.FLAGS) (K.judge args.now) K.again at) }
-    ensures stays { (at : At) → StaysLaw (deed (is_numbered K.FLAGS) (K.judge args.now) K.again at) }
-    ensures flags { (at : At) → FlagLaw K.FLAGS.write (deed (is_numbered K.FLAGS) (K.judge args.now) K.again at) }
+    ensures asks { AsksEach (λ b. deed (is_numbered K.FLAGS) (K.judge b) K.again) K.body K.reach K.ask args.now }
+    ensures join { JoinLaw K.FLAGS.reverse K.reach K.cut K.ask args.now }
+    ensures point { PointLaw (λ b. deed (is_numbered K.FLAGS) (K.judge b) K.again) K.body K.reach K.cut K.ask args.now }
+    ensures cuts { CutLaw (λ b. deed (is_numbered K.FLAGS) (K.judge b) K.again) K.body K.reach K.cut args.now }
+    ensures repeat { RepeatLaw K.reach K.ask args.now }
+    ensures beside { BesideLaw K.ask args.now }
+    ensures reads { ReadsLaw K.reach K.ask args.now }
+    ensures stays { StaysLaw K.reach K.ask args.now }
+    ensures flags { FlagLaw K.FLAGS.write K.ask args.now }
 {
     let _ = args;
 }
@@ -92,14 +95,14 @@ pub fn laws<K: Acts>(args: &K::Args)
 /// leaves every key as it is. What a request answers and writes is decided by what it does at each key
 /// that it speaks of, whichever keys are listed beside them.
 pub fn request_laws(request: &Request)
-    ensures join { (at : At) → JoinLaw (deed_of request.now at) }
-    ensures point { (at : At) → PointLaw (deed_of request.now at) }
-    ensures repeat { RepeatLaw (deed_of request.now) }
-    ensures repeat_span { RepeatSpanLaw (deed_of request.now) }
-    ensures beside { BesideLaw (deed_of request.now) }
-    ensures reads { (at : At) → ReadsLaw (deed_of request.now at) }
-    ensures stays { (at : At) → StaysLaw (deed_of request.now at) }
-    ensures flags { (at : At) → FlagLaw (flags_of (kind_of request.now)).write (deed_of request.now at) }
+    ensures join { JoinLaw (flags_of (kind_of request.now)).reverse reach_of cut_to respond_to request.now }
+    ensures point { PointLaw deed_of body_of reach_of cut_to respond_to request.now }
+    ensures cuts { CutLaw deed_of body_of reach_of cut_to request.now }
+    ensures repeat { RepeatLaw reach_of respond_to request.now }
+    ensures beside { BesideLaw respond_to request.now }
+    ensures reads { ReadsLaw reach_of respond_to request.now }
+    ensures stays { StaysLaw reach_of respond_to request.now }
+    ensures flags { FlagLaw (flags_of (kind_of request.now)).write respond_to request.now }
     ensures bodies { BodyLaw request.now }
     ensures still { StillLaw request.now }
     ensures keys { KeysLaw request.now }

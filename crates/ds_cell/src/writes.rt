@@ -16,11 +16,21 @@ use ds_kind::kinds::{
 use std::alloc::{AllocError, Global};
 
 impl Acts for Put {
-    ghost use Rattle.ds_cell.specs.Kinds.{judge_put, nothing, put-coherent, flagged};
+    ghost use Rattle.ds_kind.specs.declared.request.Request.TheVariants.{Put as Of};
+    ghost use Rattle.ds_cell.specs.Kinds.{judge_put, nothing, flagged};
+    ghost use Rattle.ds_cell.specs.Replies.{body_of};
+    ghost use Rattle.ds_cell.specs.Requests.{respond_to};
+    ghost use Rattle.ds_cell.specs.RequestProofs.{laws_of};
+
+    ghost ask = { λ a. respond_to (Of a) };
+
+    ghost cut = { λ s e a. a };
 
     ghost judge = { judge_put };
 
     ghost again = { nothing };
+
+    ghost body = { λ a. body_of (Of a) };
 
     fn judge(
         alloc: Global,
@@ -36,9 +46,9 @@ impl Acts for Put {
         Ok(Bit::Nothing)
     }
 
-    ghost coherent = { put-coherent };
-
     ghost flagged = { λ _. flagged _ };
+
+    ghost lawful = { λ a. laws_of (Of a) };
 }
 
 // Whether the value seen is the expected one, or none is seen and that is allowed.
@@ -71,11 +81,21 @@ fn put_if(
 }
 
 impl Acts for ConditionalPut {
-    ghost use Rattle.ds_cell.specs.Kinds.{judge_conditional, nothing, conditional-coherent, flagged};
+    ghost use Rattle.ds_kind.specs.declared.request.Request.TheVariants.{ConditionalPut as Of};
+    ghost use Rattle.ds_cell.specs.Kinds.{judge_conditional, nothing, flagged};
+    ghost use Rattle.ds_cell.specs.Replies.{body_of};
+    ghost use Rattle.ds_cell.specs.Requests.{respond_to};
+    ghost use Rattle.ds_cell.specs.RequestProofs.{laws_of};
+
+    ghost ask = { λ a. respond_to (Of a) };
+
+    ghost cut = { λ s e a. a };
 
     ghost judge = { judge_conditional };
 
     ghost again = { nothing };
+
+    ghost body = { λ a. body_of (Of a) };
 
     fn judge(
         alloc: Global,
@@ -93,17 +113,27 @@ impl Acts for ConditionalPut {
         Ok(Bit::Nothing)
     }
 
-    ghost coherent = { conditional-coherent };
-
     ghost flagged = { λ _. flagged _ };
+
+    ghost lawful = { λ a. laws_of (Of a) };
 }
 
 impl Acts for InitPut {
-    ghost use Rattle.ds_cell.specs.Kinds.{judge_init, nothing, init-coherent, flagged};
+    ghost use Rattle.ds_kind.specs.declared.request.Request.TheVariants.{InitPut as Of};
+    ghost use Rattle.ds_cell.specs.Kinds.{judge_init, nothing, flagged};
+    ghost use Rattle.ds_cell.specs.Replies.{body_of};
+    ghost use Rattle.ds_cell.specs.Requests.{respond_to};
+    ghost use Rattle.ds_cell.specs.RequestProofs.{laws_of};
+
+    ghost ask = { λ a. respond_to (Of a) };
+
+    ghost cut = { λ s e a. a };
 
     ghost judge = { judge_init };
 
     ghost again = { nothing };
+
+    ghost body = { λ a. body_of (Of a) };
 
     fn judge(
         alloc: Global,
@@ -121,9 +151,9 @@ impl Acts for InitPut {
         Ok(Bit::Nothing)
     }
 
-    ghost coherent = { init-coherent };
-
     ghost flagged = { λ _. flagged _ };
+
+    ghost lawful = { λ a. laws_of (Of a) };
 }
 
 #[tactic(auto, using(crate::proofs::Histories::checked_is))]
@@ -154,11 +184,21 @@ fn raised_by(by: i64, seen: Option<&Value>) -> Verdict
 }
 
 impl Acts for Increment {
-    ghost use Rattle.ds_cell.specs.Kinds.{judge_increment, shown, increment-coherent, flagged};
+    ghost use Rattle.ds_kind.specs.declared.request.Request.TheVariants.{Increment as Of};
+    ghost use Rattle.ds_cell.specs.Kinds.{judge_increment, shown, flagged};
+    ghost use Rattle.ds_cell.specs.Replies.{body_of};
+    ghost use Rattle.ds_cell.specs.Requests.{respond_to};
+    ghost use Rattle.ds_cell.specs.RequestProofs.{laws_of};
+
+    ghost ask = { λ a. respond_to (Of a) };
+
+    ghost cut = { λ s e a. a };
 
     ghost judge = { judge_increment };
 
     ghost again = { shown };
+
+    ghost body = { λ a. body_of (Of a) };
 
     fn judge(
         _alloc: Global,
@@ -174,17 +214,27 @@ impl Acts for Increment {
         Ok(Bit::Value(copy_of(alloc, written)?))
     }
 
-    ghost coherent = { increment-coherent };
-
     ghost flagged = { λ _. flagged _ };
+
+    ghost lawful = { λ a. laws_of (Of a) };
 }
 
 impl Acts for Delete {
-    ghost use Rattle.ds_cell.specs.Kinds.{judge_delete, nothing, delete-coherent, flagged};
+    ghost use Rattle.ds_kind.specs.declared.request.Request.TheVariants.{Delete as Of};
+    ghost use Rattle.ds_cell.specs.Kinds.{judge_delete, nothing, flagged};
+    ghost use Rattle.ds_cell.specs.Replies.{body_of};
+    ghost use Rattle.ds_cell.specs.Requests.{respond_to};
+    ghost use Rattle.ds_cell.specs.RequestProofs.{laws_of};
+
+    ghost ask = { λ a. respond_to (Of a) };
+
+    ghost cut = { λ s e a. a };
 
     ghost judge = { λ _. judge_delete };
 
     ghost again = { nothing };
+
+    ghost body = { λ a. body_of (Of a) };
 
     fn judge(
         _alloc: Global,
@@ -200,17 +250,27 @@ impl Acts for Delete {
         Ok(Bit::Nothing)
     }
 
-    ghost coherent = { λ _. delete-coherent };
-
     ghost flagged = { λ _. flagged _ };
+
+    ghost lawful = { λ a. laws_of (Of a) };
 }
 
 impl Acts for DeleteRange {
-    ghost use Rattle.ds_cell.specs.Kinds.{judge_delete_range, gone, delete_range-coherent, flagged};
+    ghost use Rattle.ds_kind.specs.declared.request.Request.TheVariants.{DeleteRange as Of};
+    ghost use Rattle.ds_cell.specs.Kinds.{judge_delete_range, gone, flagged};
+    ghost use Rattle.ds_cell.specs.Replies.{body_of};
+    ghost use Rattle.ds_cell.specs.Requests.{respond_to};
+    ghost use Rattle.ds_cell.specs.RequestProofs.{laws_of};
+
+    ghost ask = { λ a. respond_to (Of a) };
+
+    ghost cut = { λ s e a. record a { start = s; end = e } };
 
     ghost judge = { λ _. judge_delete_range };
 
     ghost again = { gone };
+
+    ghost body = { λ a. body_of (Of a) };
 
     fn judge(
         _alloc: Global,
@@ -229,7 +289,7 @@ impl Acts for DeleteRange {
         Ok(Bit::Gone)
     }
 
-    ghost coherent = { λ _. delete_range-coherent };
-
     ghost flagged = { λ _. flagged _ };
+
+    ghost lawful = { λ a. laws_of (Of a) };
 }

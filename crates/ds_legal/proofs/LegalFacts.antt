@@ -4,6 +4,7 @@ use Rattle.std.proofs.lemmas.Bool.Decides.{nat_tests}
 use Rattle.std.specs.List.{list_all, list_any, position, position_or_len}
 use Rattle.std.proofs.lemmas.List.Recursion.{is_position_or_len}
 use Rattle.std.specs.Option.{is_some, is_none}
+use Rattle.ds_base.proofs.SmallFacts.{and_both}
 use Rattle.ds_kind.specs.declared.batch.Batch.{Batch}
 use Rattle.ds_kind.specs.declared.illegal.Illegal.{Illegal}
 use Rattle.ds_kind.specs.Asks.{has_proper_span, is_end, needs_txn, is_get_or_scan, knows_limit, acts}
@@ -78,11 +79,8 @@ of_txn None true h e = sym e
 of_txn None false h e = sym h
 of_txn (Some x) c h e = refl
 
-both : (a b : Bool) → a ≡ true → b ≡ true → (a && b) ≡ true
-both a b p q = cc
-
 split_low : (a b : Bool) (n : ℕ) → (a && b && nat_lt 1 n) ≡ false → a ≡ true → b ≡ true → n ≤ 1
-split_low a b n h p q = low_length n 1 (ap (λ t. t && nat_lt 1 n) (sym (both a b p q)) ∙ h)
+split_low a b n h p q = low_length n 1 (ap (λ t. t && nat_lt 1 n) (sym (and_both a b p q)) ∙ h)
 
 pub legal_of : (b : Batch) → first_illegal b ≡ None → IsLegal b
 unfolding empty too_many bad_span end_txn_place needs_a_txn inconsistent_txn inconsistent_write limit_kind limit_mixed limit_order no_txn_parts
@@ -109,6 +107,6 @@ legal_of b h =
       inconsistent_reads = λ t. all_pass is_get_or_scan rs (no_place _ _ _ h7.0 (ap not t));
       limit_kinds = λ t. all_pass knows_limit rs (no_place _ _ _ h8.0 t);
       limit_fit = λ t. no_place _ _ _ h9.0 t;
-      limit_order = λ t u. no_place _ _ _ h10.0 (both _ _ t u);
+      limit_order = λ t u. no_place _ _ _ h10.0 (and_both _ _ t u);
       one_part = split_low (is_some b.at) (list_any acts rs) (length (groups (may_join true) rs)) (no_reason _ _ h11.0);
     }

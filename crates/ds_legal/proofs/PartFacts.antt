@@ -7,6 +7,7 @@ use Rattle.std.proofs.lemmas.List.Folds.{flat_map-map, list_all-append}
 use Rattle.std.specs.Option.{is_some}
 use Rattle.std.proofs.lemmas.Bool.Decides.{nat_tests}
 use Rattle.ds_base.specs.declared.value.Seq.{Seq}
+use Rattle.ds_base.proofs.SmallFacts.{and_first, and_second, and_both, or_neither, or_right, not_true}
 use Rattle.ds_kind.specs.Flags.{fit}
 use Rattle.ds_kind.specs.declared.batch.Batch.{Batch}
 use Rattle.ds_kind.specs.declared.batch.Item.{Item}
@@ -57,30 +58,15 @@ fits_not_alone q r h = (
   not_both (is_alone r) (fit (flags_at r) (flags_at q)) (alone_fits_nothing (flags_at r) (flags_at q)) (fit_symmetric (flags_at r) (flags_at q) ∙ h),
 )
 
-and_left : (a b : Bool) → (a && b) ≡ true → a ≡ true
-and_left true b h = refl
-and_left false b h = h
-
-and_right : (a b : Bool) → (a && b) ≡ true → b ≡ true
-and_right true b h = h
-and_right false b h = cc
-
-or_both : (a b : Bool) → a ≡ false → b ≡ false → (a || b) ≡ false
-or_both a b p q = cc
-
 -- what one fits all of, none of them stands alone, nor does it beside one
 fits_all_alone : (rs : List Request) (r : Request) → fits_all rs r ≡ true → list_any is_alone rs ≡ false
 fits_all_alone [] r h = refl
 fits_all_alone (q ∷ rs) r h =
-    or_both (is_alone q) (list_any is_alone rs) (fits_not_alone q r (and_left _ (fits_all rs r) h)).0 (fits_all_alone rs r (and_right (fit (flags_at q) (flags_at r)) _ h))
+    or_neither (is_alone q) (list_any is_alone rs) (fits_not_alone q r (and_first _ (fits_all rs r) h)).0 (fits_all_alone rs r (and_second (fit (flags_at q) (flags_at r)) _ h))
 
 fits_all_not_alone : (rs : List Request) (r : Request) → 0 < length rs → fits_all rs r ≡ true → is_alone r ≡ false
 fits_all_not_alone [] r some h = absurd (omega arith)
-fits_all_not_alone (q ∷ rs) r some h = (fits_not_alone q r (and_left _ (fits_all rs r) h)).1
-
-not_true : (a : Bool) → not a ≡ true → a ≡ false
-not_true true h = sym h
-not_true false h = refl
+fits_all_not_alone (q ∷ rs) r some h = (fits_not_alone q r (and_first _ (fits_all rs r) h)).1
 
 -- the two ways to join
 join_ways : {P : Type 0} (split_end : Bool) (rs : List Request) (r : Request) → may_join split_end rs r ≡ true → (split_end ≡ false → is_end r ≡ true → list_any is_alone rs ≡ false → P) → (fits_all rs r ≡ true → P) → P
@@ -98,17 +84,10 @@ all_true : (rs : List Request) (r : Request) → is_end r ≡ true → list_all 
 all_true [] r e = refl
 all_true (q ∷ rs) r e = ap (λ t. (t || fit (flags_at q) (flags_at r)) && list_all (λ p. is_end r || fit (flags_at p) (flags_at r)) rs) e ∙ all_true rs r e
 
-or_right : (a b : Bool) → b ≡ true → (a || b) ≡ true
-or_right true b h = refl
-or_right false b h = h
-
-and_both : (a b : Bool) → a ≡ true → b ≡ true → (a && b) ≡ true
-and_both a b p q = cc
-
 all_weaker : (rs : List Request) (r : Request) → fits_all rs r ≡ true → list_all (λ q. is_end r || fit (flags_at q) (flags_at r)) rs ≡ true
 all_weaker [] r h = refl
 all_weaker (q ∷ rs) r h =
-    and_both _ (list_all (λ p. is_end r || fit (flags_at p) (flags_at r)) rs) (or_right (is_end r) _ (and_left _ (fits_all rs r) h)) (all_weaker rs r (and_right (fit (flags_at q) (flags_at r)) _ h))
+    and_both _ (list_all (λ p. is_end r || fit (flags_at p) (flags_at r)) rs) (or_right (is_end r) _ (and_first _ (fits_all rs r) h)) (all_weaker rs r (and_second (fit (flags_at q) (flags_at r)) _ h))
 
 join_fit : (split_end : Bool) (rs : List Request) (r : Request) → may_join split_end rs r ≡ true → list_all (λ q. is_end r || fit (flags_at q) (flags_at r)) rs ≡ true
 join_fit split_end rs r h = join_ways split_end rs r h (λ s e a. all_true rs r e) (λ f. all_weaker rs r f)
@@ -120,8 +99,8 @@ all_fit_push : (rs : List Request) (r : Request) → all_fit rs ≡ true → lis
 all_fit_push [] r h k = refl
 all_fit_push (q ∷ rs) r h k =
     and_both _ (all_fit (rs ++ r ∷ []))
-    (all_push (λ p. is_end p || fit (flags_at q) (flags_at p)) rs r (and_left _ (all_fit rs) h) (and_left _ (list_all (λ p. is_end r || fit (flags_at p) (flags_at r)) rs) k))
-    (all_fit_push rs r (and_right (list_all (λ p. is_end p || fit (flags_at q) (flags_at p)) rs) _ h) (and_right (is_end r || fit (flags_at q) (flags_at r)) _ k))
+    (all_push (λ p. is_end p || fit (flags_at q) (flags_at p)) rs r (and_first _ (all_fit rs) h) (and_first _ (list_all (λ p. is_end r || fit (flags_at p) (flags_at r)) rs) k))
+    (all_fit_push rs r (and_second (list_all (λ p. is_end p || fit (flags_at q) (flags_at p)) rs) _ h) (and_second (is_end r || fit (flags_at q) (flags_at r)) _ k))
 
 before_last_push : (rs : List Request) (r : Request) → before_last (rs ++ r ∷ []) ≡ rs
 before_last_push rs r =
@@ -172,7 +151,7 @@ part_more split_end g x h j =
     let alone : list_any is_alone rs ≡ false = join_alone split_end rs r j in
     let fit : all_fit (rs ++ r ∷ []) ≡ true = all_fit_push rs r h.fit (join_fit split_end rs r j) in
     let last : list_any is_alone (before_last (rs ++ r ∷ [])) ≡ false = ap (list_any is_alone) (before_last_push rs r) ∙ alone in
-    let apart : list_any (is_apart split_end) (rs ++ r ∷ []) ≡ false = any_push (is_apart split_end) rs r ∙ or_both _ _ (none_apart split_end rs alone) (join_apart split_end rs r n j) in
+    let apart : list_any (is_apart split_end) (rs ++ r ∷ []) ≡ false = any_push (is_apart split_end) rs r ∙ or_neither _ _ (none_apart split_end rs alone) (join_apart split_end rs r n j) in
     record {
       some = omega (arith, length-append g (x ∷ []));
       fit = ap all_fit e ∙ fit;
@@ -203,7 +182,7 @@ each_of_joined test [] h = All-nil (λ p. list_all test (requests_of p.items) �
 each_of_joined test (p ∷ ps) h =
     let two : list_all test (requests_of p.items ++ requests_of (all_items ps)) ≡ true = ap (list_all test) (sym (map-append (λ (i : Item). i.request) p.items (all_items ps))) ∙ h in
     let both : (list_all test (requests_of p.items) && list_all test (requests_of (all_items ps))) ≡ true = sym (list_all-append test (requests_of p.items) (requests_of (all_items ps))) ∙ two in
-    All-cons (λ q. list_all test (requests_of q.items) ≡ true) p ps (and_left _ (list_all test (requests_of (all_items ps))) both) (each_of_joined test ps (and_right (list_all test (requests_of p.items)) _ both))
+    All-cons (λ q. list_all test (requests_of q.items) ≡ true) p ps (and_first _ (list_all test (requests_of (all_items ps))) both) (each_of_joined test ps (and_second (list_all test (requests_of p.items)) _ both))
 
 pub each_request : (test : Request → Bool) (split_end : Bool) (rs : List Request) (ss : List Seq) (ps : List Part) → ps ≡ parts_of split_end rs ss → length ss ≡ length rs → list_all test rs ≡ true → EachRequest test ps
 each_request test split_end rs ss ps e n h =
@@ -237,7 +216,7 @@ groups_no_end split_end (r ∷ rs) h = groups_from_no_end split_end (r ∷ []) r
 weaker_none : (p q : Request → Bool) (rs : List Request) → ((r : Request) → q r ≡ true → p r ≡ true) → list_any p rs ≡ false → list_any q rs ≡ false
 weaker_none p q [] f h = refl
 weaker_none p q (r ∷ rs) f h =
-    or_both (q r) (list_any q rs) (not_both (q r) (not (p r)) (λ e. ap not (f r e)) (ap not (first (p r) _ h))) (weaker_none p q rs f (second (p r) _ h))
+    or_neither (q r) (list_any q rs) (not_both (q r) (not (p r)) (λ e. ap not (f r e)) (ap not (first (p r) _ h))) (weaker_none p q rs f (second (p r) _ h))
   where
     first : (a b : Bool) → (a || b) ≡ false → a ≡ false
     first true b e = e
@@ -257,7 +236,7 @@ end_knows_no_limit r h = cc
 
 all_not_any : (p : Request → Bool) (rs : List Request) → list_all p rs ≡ true → list_any (λ r. not (p r)) rs ≡ false
 all_not_any p [] h = refl
-all_not_any p (r ∷ rs) h = or_both _ _ (ap not (and_left _ (list_all p rs) h)) (all_not_any p rs (and_right (p r) _ h))
+all_not_any p (r ∷ rs) h = or_neither _ _ (ap not (and_first _ (list_all p rs) h)) (all_not_any p rs (and_second (p r) _ h))
 
 one_group : (split_end : Bool) (rs : List Request) (ss : List Seq) (ps : List Part) → ps ≡ parts_of split_end rs ss → length ss ≡ length rs → 0 < length rs → list_any is_end rs ≡ false → length (groups (may_join true) rs) ≤ 1 → length ps ≡ 1
 one_group split_end rs ss ps e n some ends few =

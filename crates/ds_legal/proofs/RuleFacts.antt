@@ -8,6 +8,7 @@ use Rattle.std.proofs.lemmas.Cmp.{nat_list_cmp_total}
 use Rattle.std.proofs.lemmas.List.{take_more}
 use Rattle.ds_base.specs.Order.{key_cmp, key_lt, key_le, after}
 use Rattle.ds_base.proofs.KeyOrder.{after-above, key_le-not_lt}
+use Rattle.ds_base.proofs.SmallFacts.{less_reversed}
 use Rattle.std.specs.Option.{option_map_or}
 use Rattle.ds_kind.specs.Reach.{At, extent_of}
 use Rattle.ds_kind.specs.Request.{reach_of, span_of}
@@ -20,14 +21,9 @@ use Rattle.ds_legal.specs.Rules.{is_misfit, is_overtaken}
 use Rattle.ds_legal.proofs.MixFacts.{fits_mix, mix_push}
 use Rattle.ds_legal.proofs.GroupFacts.{first_found, first_passed}
 
-lt_reverse : (o : Ordering) → is_lt (ordering_reverse o) ≡ is_gt o
-lt_reverse Less = refl
-lt_reverse Equal = refl
-lt_reverse Greater = refl
-
 -- below the next key of a is what is not above a
 pub below_next : (b a : List ℕ) → key_lt b (after a) ≡ key_le b a
-below_next b a = ap is_lt (nat_list_cmp_total.antisymm b (after a)) ∙ lt_reverse (key_cmp (after a) b) ∙ after-above a b ∙ sym (key_le-not_lt b a)
+below_next b a = ap is_lt (nat_list_cmp_total.antisymm b (after a)) ∙ less_reversed (key_cmp (after a) b) ∙ after-above a b ∙ sym (key_le-not_lt b a)
 
 -- a point ends at its next key
 pub overtakes_point : (a b : Request) (k : List ℕ) → At k ≡ reach_of a → overtakes a b ≡ key_le (span_of b).start k

@@ -9,8 +9,6 @@ pub mod grouping;
 pub mod legal;
 mod mix;
 mod rules;
-#[cfg(test)]
-mod tests;
 
 pub use counting::numbers;
 pub use ds_kind::Illegal;

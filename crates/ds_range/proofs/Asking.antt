@@ -6,6 +6,7 @@ use Rattle.ds_base.specs.Order.{key_cmp, key_lt, key_le, holds}
 use Rattle.ds_base.specs.Ordered.{between}
 use Rattle.ds_base.specs.declared.value.Value.{Value}
 use Rattle.ds_base.proofs.OrderedFacts.{le_trans, le_of_not_lt, not_lt_of_le}
+use Rattle.ds_base.proofs.SmallFacts.{append_nil}
 use Rattle.ds_cell.specs.declared.verdict.Verdict.{Verdict}
 use Rattle.ds_cell.specs.declared.verdict.Verdict.TheVariants.{Keep, Put, Refuse}
 use Rattle.ds_cell.specs.declared.verdict.Bit.{Bit}
@@ -13,13 +14,6 @@ use Rattle.ds_cell.specs.declared.verdict.ActFault.{ActFault}
 use Rattle.ds_cell.specs.Content.{Content, no_content}
 use Rattle.ds_cell.specs.Ask.{Cells, key_of, content_at, Asked, Failed, Gave, one_more, ask_each, joined}
 use Rattle.ds_range.specs.Asks.{with_verdict, unless_refused}
-use Rattle.ds_range.proofs.Maps as maps
-
-pub content_some : (k : List ℕ) (es : Cells) (c : Content) → lookup (is_at (key_cmp k)) es ≡ Some c → c ≡ content_at k es
-content_some k es c h = maps.content_some k es c h
-
-pub content_none : (k : List ℕ) (es : Cells) → lookup (is_at (key_cmp k)) es ≡ None → no_content ≡ content_at k es
-content_none k es h = maps.content_none k es h
 
 -- asked of one key alone
 pub one_alone : (k : List ℕ) (v : Verdict) → with_verdict k v (Gave [] []) ≡ one_more k v (Gave [] [])
@@ -49,10 +43,6 @@ pub asked_refused : (d : Content → Verdict) (p : List ℕ × Content) (rest : 
 asked_refused d p rest all bs cs ws vs v f inv is more =
     ap (λ a. joined a (ask_each d rest)) (more ∙ ap (λ z. with_verdict p.0 z (Gave bs ws)) is)
     ∙ sym (step bs ws p.0 (d p.1) (ask_each d rest)) ∙ inv
-
-append_nil : {X : Type 0} (xs : List X) → xs ++ [] ≡ xs
-append_nil [] = refl
-append_nil (x ∷ xs) = ap (λ zs. x ∷ zs) (append_nil xs)
 
 -- all keys are asked
 pub asked_all : (d : Content → Verdict) (rest : Cells) (all : Asked) (bs : List (List ℕ × Bit)) (ws : List (List ℕ × Option Value)) → rest ≡ [] → joined (Gave bs ws) (ask_each d rest) ≡ all → Gave bs ws ≡ all

@@ -11,6 +11,7 @@ use Rattle.ds_base.specs.Order.{key_cmp}
 use Rattle.ds_base.specs.Ordered.{key_eq, AllOver, Ascends, at_key}
 use Rattle.ds_base.specs.declared.value.Stamp.{Stamp}
 use Rattle.ds_base.proofs.OrderedFacts.{eq_same, eq_itself, lt_not_eq}
+use Rattle.ds_base.proofs.SmallFacts.{or_right, none_some, some_same}
 use Rattle.ds_cell.specs.declared.entry.Version.{Version}
 use Rattle.ds_cell.specs.declared.entry.Written.{Written}
 use Rattle.ds_cell.specs.declared.taken.Taken.{Taken}
@@ -22,7 +23,7 @@ use Rattle.ds_cell.specs.Ask.{Cells, key_of, content_of, content_at}
 use Rattle.ds_rule.specs.Close.{settle_cells}
 use Rattle.ds_range.specs.Covers.{has_key, IsNoted, Covers, CoversIf, settled_one, settled_among}
 use Rattle.ds_range.specs.Keeps.{Kept, put_back, restored, kept_keys}
-use Rattle.ds_range.proofs.Maps.{missing, key_eq_turned, none_some, some_same}
+use Rattle.ds_range.proofs.Maps.{missing, key_eq_turned}
 
 -- more keys
 
@@ -36,10 +37,6 @@ noted_within ks ls k (Some v) w h = w k h
 covers_within : (ks ls : List (List ℕ)) (es : Cells) → Within ks ls → Covers ks es → Covers ls es
 covers_within ks ls [] w h = tt
 covers_within ks ls (p ∷ ps) w h = (noted_within ks ls p.0 (last_of p.1.history) w h.0, covers_within ks ls ps w h.1)
-
-or_right : (a b : Bool) → b ≡ true → (a || b) ≡ true
-or_right true b h = refl
-or_right false b h = h
 
 one_more : (k : List ℕ) (ks : List (List ℕ)) → Within ks (k ∷ ks)
 one_more k ks q h = or_right (key_eq k q) (has_key q ks) h

@@ -25,6 +25,7 @@ use Rattle.ds_cell.specs.Deed.{Sight, sight, look_of, deed, decide, guarded}
 use Rattle.ds_cell.specs.Ask.{Cells, key_of, content_of, content_at, Gave, ask_each, ask_at}
 use Rattle.ds_cell.specs.Kinds.{judge_put, judge_conditional, judge_init, judge_increment, judge_delete, judge_delete_range, nothing, shown, gone}
 use Rattle.ds_cell.specs.LawProofs.{guarded-keep}
+use Rattle.ds_cell.specs.StoreProofs.{equal_same}
 use Rattle.ds_cell.specs.Requests.{deed_of, ask_request}
 use Rattle.ds_cell.specs.Store.{write_all}
 use Rattle.ds_rule.proofs.Writes.{Puts, more_puts, no_puts}
@@ -121,16 +122,13 @@ free_writes r at cells cs vs asc h = free_at r at (reach_of r) cells cs vs asc h
 
 -- a cell put in at one key leaves the others
 
-same_key : (k q : List ℕ) → key_cmp k q ≡ Equal → k ≡ q
-same_key k q h = slice_cmp-IsAntisymmetric nat_cmp-IsAntisymmetric k q h
-
 content-beside : (k q : List ℕ) (c : Content) (cells : Cells) → key_eq k q ≡ false → content_at q (insert_entry key_cmp cells k c) ≡ content_at q cells
 content-beside k q c [] apart = ap (λ t. content_of (cond t (Some (k, c)) None)) apart
 content-beside k q c (p ∷ ps) apart =
     elim (key_cmp k p.0) as (λ o. key_cmp k p.0 ≡ o → content_at q (match_ordering o ((k, c) ∷ p ∷ ps) ((p.0, c) ∷ ps) (p ∷ insert_entry key_cmp ps k c)) ≡ content_at q (p ∷ ps)) [
       | Less ↦ λ e. ap (λ t. content_of (cond t (Some (k, c)) (at_key key_of q (p ∷ ps)))) apart
       | Equal ↦ λ e.
-          let here : key_eq p.0 q ≡ false = subst (λ z. key_eq z q ≡ false) (same_key k p.0 e) apart in
+          let here : key_eq p.0 q ≡ false = subst (λ z. key_eq z q ≡ false) (equal_same k p.0 e) apart in
           ap (λ t. content_of (cond t (Some (p.0, c)) (at_key key_of q ps))) here ∙ ap (λ t. content_of (cond t (Some p) (at_key key_of q ps))) (sym here)
       | Greater ↦ λ e.
           elim (key_eq p.0 q) as (λ t. content_of (cond t (Some p) (at_key key_of q (insert_entry key_cmp ps k c))) ≡ content_of (cond t (Some p) (at_key key_of q ps))) [

@@ -22,6 +22,7 @@ use Rattle.ds_cell.specs.Taken.{given_back}
 use Rattle.ds_cell.specs.declared.taken.Taken.{Taken}
 use Rattle.ds_base.specs.declared.value.Stamp.{Stamp}
 use Rattle.ds_base.specs.declared.value.Value.{Value}
+use Rattle.ds_base.proofs.SmallFacts.{less_not_equal, none_some, some_none}
 use Rattle.ds_cell.specs.declared.entry.At.{At}
 use Rattle.ds_cell.specs.Change.{settled}
 use Rattle.ds_range.specs.Asks.{wrote_once, wrote_each}
@@ -67,27 +68,16 @@ pub ascends_of : (es : Cells) → IsStrictlySortedBy key_cmp (keys_of es) → As
 ascends_of [] h = tt
 ascends_of (p ∷ ps) h = (over_of p.0 ps (sorted_head key_cmp p.0 (keys_of ps) h), ascends_of ps (sorted_tail key_cmp p.0 (keys_of ps) h))
 
-less_not : (o : Ordering) → is_lt o ≡ true → is_eq o ≡ false
-less_not Less h = refl
-less_not Equal h = sym h
-less_not Greater h = refl
-
 -- nothing is found below all keys
 pub missing : (k : List ℕ) (es : Cells) → AllOver key_of k es → lookup (is_at (key_cmp k)) es ≡ None
 missing k [] all = refl
-missing k (p ∷ ps) all = ap (λ t. cond t (Some p.1) (lookup (is_at (key_cmp k)) ps)) (less_not (key_cmp k p.0) all.0) ∙ missing k ps all.1
+missing k (p ∷ ps) all = ap (λ t. cond t (Some p.1) (lookup (is_at (key_cmp k)) ps)) (less_not_equal (key_cmp k p.0) all.0) ∙ missing k ps all.1
 
 pub over_less : (k q : List ℕ) (es : Cells) → key_lt k q ≡ true → AllOver key_of q es → AllOver key_of k es
 over_less k q [] low all = tt
 over_less k q (p ∷ ps) low all = (key_lt-trans k q p.0 low all.0, over_less k q ps low all.1)
 
 -- what is put in
-
-pub none_some : {X : Type 0} {G : Type 0} (x : X) → None ≡ Some x → G
-none_some x h = cc
-
-some_none : {X : Type 0} {G : Type 0} (x : X) → Some x ≡ None → G
-some_none x h = cc
 
 -- a key that is there takes the value where it stands
 pub put_there : (k : List ℕ) (d : Content) (es : Cells) (c : Content) → Ascends key_of es → lookup (is_at (key_cmp k)) es ≡ Some c → set_value (is_at (key_cmp k)) es d ≡ insert_entry key_cmp es k d
@@ -120,9 +110,6 @@ back_begun k d (p ∷ ps) h =
           ap (λ o. cond (is_eq o) (insert_entry key_cmp ps k d) (p ∷ remove_entry (is_at (key_cmp k)) (insert_entry key_cmp ps k d))) e
           ∙ ap (λ qs. p ∷ qs) (back_begun k d ps g)
     ] refl h
-
-pub some_same : {X : Type 0} (x y : X) → Some x ≡ Some y → x ≡ y
-some_same x y h = cc
 
 -- a cell that was begun goes
 pub begun_back : (k : List ℕ) (d : Content) (es after : Cells) → lookup (is_at (key_cmp k)) es ≡ None → after ≡ insert_entry key_cmp es k d → put_back k None after ≡ es

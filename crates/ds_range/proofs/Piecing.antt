@@ -4,6 +4,7 @@ use Rattle.ds_base.specs.Ordered.{Ascends}
 use Rattle.ds_base.specs.declared.value.Stamp.{Stamp}
 use Rattle.ds_base.specs.declared.value.TxnNo.{TxnNo}
 use Rattle.ds_base.specs.declared.value.Value.{Value}
+use Rattle.ds_base.proofs.SmallFacts.{append_nil}
 use Rattle.ds_kind.specs.declared.batch.Head.{Head}
 use Rattle.ds_kind.specs.declared.batch.Item.{Item}
 use Rattle.ds_kind.specs.declared.reply.Failure.{Failure}
@@ -105,10 +106,6 @@ underway_more h all n i old now next kept more_kept rs qs u low at s b =
 pub underway_failed : (h : Head) (all : List Item) (n : ℕ) (i : Item) (old now : Cells) (kept : List Kept) (rs : List Reply) (f : Failure) → Underway h (drop n all) all old now kept rs → n < length all → i ≡ get_or all n i → ask_item h i now ≡ Fails f → ask_all h all old ≡ Fails f
 underway_failed h all n i old now kept rs f u low at s =
     failing h i (drop (n + 1) all) all old now kept rs f (subst (λ is. Underway h is all old now kept rs) (dropped all n i low at) u) s
-
-append_nil : {X : Type 0} (xs : List X) → xs ++ [] ≡ xs
-append_nil [] = refl
-append_nil (x ∷ xs) = ap (λ zs. x ∷ zs) (append_nil xs)
 
 -- all were served
 pub underway_done : (h : Head) (rest all : List Item) (old now : Cells) (kept : List Kept) (rs : List Reply) → Underway h rest all old now kept rs → rest ≡ [] → ServedAll h all old now kept (Tried.Replied rs)

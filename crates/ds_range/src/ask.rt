@@ -23,7 +23,7 @@ pub enum Asked {
 }
 
 /// What a request decides for a key, whether anything stands there or not.
-#[tactic(auto, using(crate::proofs::Asking::content_some, crate::proofs::Asking::content_none))]
+#[tactic(auto, using(crate::proofs::Maps::content_some, crate::proofs::Maps::content_none))]
 fn decide_at(
     alloc: Global,
     cells: &BTreeMap<Key, Cell>,

@@ -1,12 +1,12 @@
 //! One range: its descriptor with its lease, what stands at each of its keys, and what it answers.
 #![tactic(auto)]
 
-pub mod ask;
+mod ask;
 mod change;
 mod keep;
-pub mod serve;
+mod serve;
 mod settle;
-pub mod state;
+mod state;
 #[cfg(test)]
 mod tests;
 
