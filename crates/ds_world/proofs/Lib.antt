@@ -1,0 +1,9 @@
+pub mod Cells
+pub mod Commutes
+pub mod Foreign
+pub mod Leases
+pub mod Merges
+pub mod Newest
+pub mod Shifted
+pub mod Splits
+pub mod Stretches
