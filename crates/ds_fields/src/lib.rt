@@ -6,13 +6,11 @@
 //! called out of range.
 #![tactic(auto)]
 
-pub mod fault;
-pub mod lists;
-pub mod members;
-pub mod parts;
-pub mod scalars;
-#[cfg(test)]
-mod tests;
+mod fault;
+mod lists;
+mod members;
+mod parts;
+mod scalars;
 
 pub use fault::{FaultKind, LineFault};
 pub use lists::{Reader, list_of, nodes_of, small_list_of};

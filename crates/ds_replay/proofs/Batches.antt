@@ -2,7 +2,7 @@
 use Rattle.std.proofs.Common.{◌≡◌, ℕ, ◌<◌, Bool, true, ◌&&◌, List, Option, Some, None, is_some, is_none, inl, inr, refl, sym, ap, ◌∙◌, subst, nat_lt}
 use Rattle.std.specs.List.{list_all}
 use Rattle.std.specs.Option.{option_map}
-use Rattle.ds_base.proofs.SmallFacts.{and_first, and_second}
+use Rattle.ds_base.proofs.SmallFacts.{and_first, and_second, lt_of, some_of}
 use Rattle.ds_base.specs.declared.value.Stamp.{Stamp}
 use Rattle.ds_kind.specs.declared.batch.Batch.{Batch}
 use Rattle.ds_kind.specs.declared.request.Request.{Request}
@@ -36,12 +36,8 @@ use Rattle.ds_replay.specs.Stages.{IsIn, HasOpen, StandsAt}
 use Rattle.ds_replay.specs.Taken.{LineTaken}
 use Rattle.ds_replay.proofs.Answering.{pends-any}
 use Rattle.ds_replay.proofs.AskedLine.{Owes, came, turned}
-use Rattle.ds_replay.proofs.Readiness.{lt_of, ready-alone, ready-open}
+use Rattle.ds_replay.proofs.Readiness.{ready-alone, ready-open}
 use Rattle.ds_replay.proofs.Staying.{asker-stays, no-numbers, same-begun, same-txn, still-open}
-
-some-of : (o : Option Stamp) → is_some o ≡ true → (s : Stamp) × (o ≡ Some s)
-some-of None h = cc
-some-of (Some s) h = (s, refl)
 
 alone-asker : (b : Batch) (s : Stamp) (q : Asking) → b.at ≡ Some s → asking None b ≡ Some q → Pends q.head.txn None
 alone-asker b s q at is = subst (λ z. Pends z.head.txn None) (same _ q (subst (λ x. asking_by x None b ≡ Some q) at is)) tt
@@ -67,7 +63,7 @@ owes-closed sim begun s p b at is here =
 
 pub asked-closed : (sim new : Sim) (begun budget : ℕ) (b : Batch) (block : Block) (n : ℕ) (log after : List Entry) (s : Played) (p : Store) (by : AskedBy (state_of sim) (state_of new) budget None b n log after) → 0 < budget → (is_some b.at && is_sent b block) ≡ true → StandsAt (State.Closed sim begun) s p → LineTaken budget (State.Closed sim begun) (State.Closed new begun) (lines.Batch b block) (Some (entries.Batch n by.steps by.outcome)) s p
 asked-closed sim new begun budget b block n log after s p by tries fits here =
-    let at = some-of b.at (and_first (is_some b.at) _ fits) in
+    let at = some_of b.at (and_first (is_some b.at) _ fits) in
     let sent = and_second (is_some b.at) _ fits in
     let owes = owes-closed sim begun s p b at.0 at.1 here in
     let c = came (state_of sim) (state_of new) budget None p b s.asks n log after by tries (and_first (Sends.is_built b) _ sent) owes refl in

@@ -1,6 +1,6 @@
 -- The block of a batch, read off what its sender did.
 use Rattle.std.proofs.Common.{◌≡◌, ℕ, ◌+◌, List, [], ◌∷◌, ◌++◌, map, inl, inr, refl, sym, ap, ◌∙◌, arith}
-use Rattle.ds_desc.specs.Counts.{Rose}
+use Rattle.ds_base.specs.Counts.{Rose}
 use Rattle.ds_desc.specs.declared.meta.Looked.TheVariants as Looked
 use Rattle.ds_kind.specs.declared.reply.Reply.{Reply}
 use Rattle.ds_cell.specs.Store.{Store}
@@ -22,7 +22,7 @@ use Rattle.ds_script.specs.Journals.{accepted_in, served_by, served_in}
 -- nothing is lost where no count rose
 pub never-rose : Rose 0 0 → ⊥
 never-rose (inl h) = omega (arith, h)
-never-rose (inr h) = omega (arith, h)
+never-rose (inr h) = omega (arith, h.0)
 
 pub quiet-steps : (r : Type 0) (steps : List JournalStep) → (r → ⊥) → Each (LosesOnly r) (map Did steps) → Each IsQuiet (map Did steps)
 quiet-steps r [] never all = tt

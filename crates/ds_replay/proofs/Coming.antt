@@ -1,5 +1,6 @@
 -- What a batch is answered that meets nothing but its own steps, in a steady world.
 use Rattle.std.proofs.Common.{ℕ, ◌<◌, List, None, inl, inr, subst}
+use Rattle.ds_rule.proofs.Eachs.{each-right}
 use Rattle.ds_kind.specs.declared.batch.Batch.{Batch}
 use Rattle.ds_kind.specs.declared.reply.Failure.TheVariants as Failure
 use Rattle.ds_cell.specs.Store.{Store}
@@ -13,7 +14,6 @@ use Rattle.ds_rule.specs.Path.{Path}
 use Rattle.ds_rule.specs.Pieces.{Each}
 use Rattle.ds_rule.specs.StandsFor.{Ready}
 use Rattle.ds_rule.specs.Steady.{Steady}
-use Rattle.ds_rule.proofs.Failing.{each-right}
 use Rattle.ds_rule.proofs.NeverEnded.{never-ended}
 use Rattle.ds_rule.proofs.Recorded.{Pends}
 use Rattle.ds_rule.proofs.Steadiness.{AllTaken, all-taken, never-used-up}

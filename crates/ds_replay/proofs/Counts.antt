@@ -1,5 +1,5 @@
 -- The steps of a batch leave the count of events.
-use Rattle.std.proofs.Common.{◌≡◌, ℕ, Bool, true, false, List, [], ◌∷◌, ◌++◌, map, Option, Some, None, ◌⊎◌, inl, inr, find, refl, sym, ap, ◌∙◌, subst}
+use Rattle.std.proofs.Common.{◌≡◌, ℕ, Bool, true, false, List, [], ◌∷◌, ◌++◌, map, Option, Some, None, inl, inr, find, refl, sym, ap, ◌∙◌, subst}
 use Rattle.ds_desc.specs.declared.meta.Looked.TheVariants as Looked
 use Rattle.ds_kind.specs.declared.batch.Batch.{Batch}
 use Rattle.ds_kind.specs.declared.batch.Piece.{Piece}
@@ -11,10 +11,10 @@ use Rattle.ds_rule.specs.declared.answer.Outcome.{Outcome}
 use Rattle.ds_rule.specs.declared.journal.Entry.{Entry}
 use Rattle.ds_rule.specs.declared.journal.JournalStep.{JournalStep}
 use Rattle.ds_rule.specs.declared.journal.JournalStep.TheVariants.{Look, Send}
-use Rattle.ds_rule.specs.Asking.{Asking, asking, Made, Gives, Fails}
+use Rattle.ds_rule.specs.Asking.{Asking, Made, Gives, Fails}
 use Rattle.ds_rule.specs.Clauses.{Stands}
 use Rattle.ds_rule.specs.Deliver.{Stop, world_made, world_at, deliver_world_to, deliver_world, served, stops, has_id}
-use Rattle.ds_rule.specs.Journal.{Happening, Did as Stepped, Does, Runs, Accepted}
+use Rattle.ds_rule.specs.Journal.{Did as Stepped, Does, Runs, Accepted}
 use Rattle.ds_rule.specs.Path.{Path}
 use Rattle.ds_rule.specs.World.{World, Range}
 use Rattle.ds_send.specs.Sent.{Ruled, Sent, SentBy, IsOpenFor, is_whole}
@@ -38,7 +38,7 @@ deliver-count w n p = to-count w n p (find (has_id p.range) w.ranges)
 
 does-count : (w : World) (s : JournalStep) (v : World) → Does w s v → v.count ≡ w.count
 does-count w (Look k d (Looked.Rows infos)) v h = ap (λ z. z.count) h.1
-does-count w (Look k d Looked.Lost) v h = ap (λ z. z.count) h
+does-count w (Look k d Looked.Lost) v h = ap (λ z. z.count) h.0
 does-count w (Send n p (Done rs)) v h = ap (λ z. z.count) h.1 ∙ deliver-count w n p
 does-count w (Send n p (Failed f)) v h = ap (λ z. z.count) h.1 ∙ deliver-count w n p
 does-count w (Send n p (Refused r)) v h = ap (λ z. z.count) h.1 ∙ deliver-count w n p

@@ -1,7 +1,7 @@
 -- The lines of a script but for batches.
 use Rattle.std.proofs.Common.{◌≡◌, ℕ, ◌+◌, ◌≤◌, true, false, ◌&&◌, List, [], ◌∷◌, ◌++◌, Option, Some, None, refl, sym, ap, ◌∙◌, subst, nat_lt, arith}
 use Rattle.std.specs.List.{list_all}
-use Rattle.ds_base.proofs.SmallFacts.{and_first, and_second}
+use Rattle.ds_base.proofs.SmallFacts.{and_first, and_second, append_nil, lt_of}
 use Rattle.ds_base.specs.Order.{key_lt, bound}
 use Rattle.ds_base.specs.declared.key.Key.{Key}
 use Rattle.ds_base.specs.declared.value.Stamp.{Stamp}
@@ -32,18 +32,13 @@ use Rattle.ds_sim.proofs.Begins.{tiled}
 use Rattle.ds_replay.specs.declared.state.State.{State}
 use Rattle.ds_replay.specs.Stages.{IsIn, HasOpen, StandsAt}
 use Rattle.ds_replay.specs.Taken.{LineTaken, Taken}
-use Rattle.ds_replay.proofs.Readiness.{lt_of}
-
-append-nil : (log : List Entry) → log ≡ log ++ []
-append-nil [] = refl
-append-nil (e ∷ es) = ap (λ xs. e ∷ xs) (append-nil es)
 
 -- a line without an entry leaves the log
 pub no-entry : {budget : ℕ} (old new : State) (l : Numbered) (log : List Entry) → has_entry l.line ≡ false → ((s : Played) (p : Store) → StandsAt old s p → LineTaken budget old new l.line None s p) → Taken budget old new l log log
 no-entry old new l log none line = record {
   entry = None;
   takes = subst (λ t. TakesEntry t l.number [] None []) (sym none) refl;
-  logged = append-nil log;
+  logged = sym (append_nil log);
   line = line;
 }
 

@@ -1,14 +1,11 @@
 -- The cluster is ready for each batch of a script.
-use Rattle.std.proofs.Common.{◌≡◌, ℕ, ◌<◌, ◌≤◌, Bool, true, false, ◌&&◌, List, [], ◌∷◌, Option, Some, None, inl, inr, refl, sym, ap, ◌∙◌, subst, max, nat_lt, arith}
-use Rattle.std.proofs.lemmas.Bool.Decides.{nat_tests}
+use Rattle.std.proofs.Common.{◌≡◌, ◌<◌, ◌≤◌, Option, Some, None, refl, sym, ap, ◌∙◌, subst, arith}
 use Rattle.ds_base.specs.declared.value.Stamp.{Stamp}
 use Rattle.ds_kind.specs.declared.batch.Batch.{Batch}
 use Rattle.ds_cell.specs.Store.{Asker, Store, StoreTxn}
-use Rattle.ds_rule.specs.Asking.{Asking, asking, asking_by, numbered, head_of}
+use Rattle.ds_rule.specs.Asking.{Asking, asking, asking_by}
 use Rattle.ds_rule.specs.Clauses.{Stands}
-use Rattle.ds_rule.specs.Plain.{asker_in}
 use Rattle.ds_rule.specs.StandsFor.{StandsFor, Ready, IsKnown, IsBefore, IsWho, Knows, open_stamp}
-use Rattle.ds_rule.specs.World.{World}
 use Rattle.ds_send.specs.Sent.{IsOpenFor}
 use Rattle.ds_replay.specs.Asked.{floor_of, begun_block}
 
@@ -32,9 +29,6 @@ ready-alone a p b q s st none at asks =
     asker_of_txn : Option StoreTxn → Option Asker
     asker_of_txn None = None
     asker_of_txn (Some t) = Some t.asker
-
-pub lt_of : (n m : ℕ) → nat_lt n m ≡ true → n < m
-lt_of n m h = grind (arith, nat_tests)
 
 -- beside an open transaction, or of it
 open-by : (at : Option Stamp) (a : Stands) (p : Store) (b : Batch) (q : Asking) (t : StoreTxn) → StandsFor a.world p → p.txn ≡ Some t → IsKnown t.mode → b.at ≡ at → ((s : Stamp) → at ≡ Some s → s.0 < t.asker.stamp) → asking (Some t.asker) b ≡ Some q → Ready (begun_block a (Some t.asker) b) p b q

@@ -1,10 +1,9 @@
 -- Whole scripts, one line after another.
 use Rattle.std.proofs.Common.{◌≡◌, ℕ, zero, suc, get_or, ◌+◌, ◌<◌, ◌≤◌, Bool, true, false, ◌&&◌, List, [], ◌∷◌, ◌++◌, length, take, drop, Option, Some, None, IsSome, nat_lt, nat_le, refl, sym, ap, ◌∙◌, subst, arith}
-use Rattle.std.proofs.lemmas.Bool.Decides.{nat_tests}
-use Rattle.ds_base.proofs.SmallFacts.{and_first, and_second}
+use Rattle.ds_base.proofs.SmallFacts.{and_first, and_second, le_of, lt_of}
+use Rattle.ds_rule.proofs.Eachs.{each-append}
 use Rattle.ds_cell.specs.Store.{Store, empty_store}
 use Rattle.ds_rule.specs.declared.journal.Entry.{Entry}
-use Rattle.ds_rule.proofs.Trips.{each-append}
 use Rattle.ds_script.specs.declared.line.Line.{Line}
 use Rattle.ds_script.specs.declared.line.Numbered.{Numbered}
 use Rattle.ds_script.specs.Journals.{Played, JournalTurn, GatherTurn, first_played, no_asks, LegalJournal, AllGathered}
@@ -17,7 +16,6 @@ use Rattle.ds_replay.specs.Causes.{CauseTurn, first_told}
 use Rattle.ds_replay.specs.Comes.{AllMayCome, EntryMayCome}
 use Rattle.ds_replay.specs.Stages.{IsWithin, StandsAt, stage_of}
 use Rattle.ds_replay.specs.Taken.{Taken, listed}
-use Rattle.ds_replay.proofs.Readiness.{lt_of}
 
 -- a line after others
 
@@ -47,9 +45,6 @@ pub record Replaying (budget : ℕ) (done ahead : List Numbered) (n : ℕ) (stat
   pub within : IsWithin state n
   pub built : unbuilt_from ahead (stage_of state) ≡ None
   pub few : n + length ahead ≤ 20000
-
-le_of : (n m : ℕ) → nat_le n m ≡ true → n ≤ m
-le_of n m h = grind (arith, nat_tests)
 
 rise-few : (last : ℕ) (ls : List Numbered) → numbers_rise last ls ≡ true → last ≤ 20000 → last + length ls ≤ 20000
 rise-few last [] h low = omega (arith, low)

@@ -1,17 +1,17 @@
 -- The open transaction after an answer.
-use Rattle.std.proofs.Common.{◌≡◌, ℕ, ◌+◌, Bool, true, false, cond, List, [], ◌∷◌, length, filter, Option, Some, None, refl, sym, ap, ◌∙◌, subst, arith}
+use Rattle.std.proofs.Common.{◌≡◌, ◌+◌, Bool, true, false, cond, List, [], ◌∷◌, length, filter, Option, Some, None, refl, sym, ap, ◌∙◌, subst, arith}
 use Rattle.std.specs.List.{list_all}
 use Rattle.std.specs.Option.{option_map}
 use Rattle.ds_base.proofs.SmallFacts.{and_first, and_second}
 use Rattle.ds_base.specs.declared.value.Stamp.{Stamp}
+use Rattle.ds_rule.proofs.ReadLaw.{known-failed}
 use Rattle.ds_kind.specs.Asks.{takes_number}
 use Rattle.ds_kind.specs.declared.batch.Batch.{Batch}
 use Rattle.ds_kind.specs.declared.request.Request.{Request}
 use Rattle.ds_kind.specs.declared.request.Request.TheVariants.{Get, Scan, ReverseScan, Put, ConditionalPut, InitPut, Increment, Delete, DeleteRange, EndTxn, QueryIntent, ResolveIntent, ResolveIntentRange, AdminSplit, AdminTransferLease}
-use Rattle.ds_cell.specs.Store.{Asker, Store, StoreTxn, Mode, Live, FailedSince, Unknown, OverWith}
+use Rattle.ds_cell.specs.Store.{Asker, Store, StoreTxn}
 use Rattle.ds_rule.specs.declared.answer.Outcome.{Outcome}
-use Rattle.ds_rule.specs.Plain.{Answered, asker_after, count_numbered, counted_store, counted_txn, failed_mode, failed_store, failed_txn, if_of_txn, uses_numbers}
-use Rattle.ds_rule.specs.StandsFor.{IsKnown}
+use Rattle.ds_rule.specs.Plain.{Answered, asker_after, count_numbered, counted_store, counted_txn, failed_store, failed_txn, if_of_txn, uses_numbers}
 use Rattle.ds_send.specs.Batch.{is_plain_read}
 use Rattle.ds_send.specs.declared.txn.Txn.{Txn}
 use Rattle.ds_replay.specs.Comes.{MayCome}
@@ -54,19 +54,13 @@ asker-stays b o t none = either (uses_numbers o)
 
 -- counted and failed
 
-known-mode : (n : ℕ) (m : Mode) → IsKnown m → IsKnown (failed_mode n m)
-known-mode n Live k = tt
-known-mode n (FailedSince i) k = tt
-known-mode n (Unknown ws) k = k
-known-mode n (OverWith s) k = tt
-
 open-counted : (txn : Txn) (b : Batch) (o : Outcome) (t : Option StoreTxn) → count_numbered b.requests ≡ 0 → HasOpen txn t → HasOpen txn (option_map (counted_txn b o) t)
 open-counted txn b o None none h = h
 open-counted txn b o (Some t) none h = record { asker = asker-stays b o t.asker none ∙ h.asker; fate = h.fate; known = h.known }
 
 open-failed : (txn : Txn) (t : Option StoreTxn) → HasOpen txn t → HasOpen txn (option_map failed_txn t)
 open-failed txn None h = h
-open-failed txn (Some t) h = record { asker = h.asker; fate = h.fate; known = known-mode t.batches t.mode h.known }
+open-failed txn (Some t) h = record { asker = h.asker; fate = h.fate; known = known-failed t.batches t.mode h.known }
 
 -- of the transaction
 

@@ -1,8 +1,7 @@
 -- What the replay of each line makes.
 use Rattle.std.proofs.Common.{◌≡◌, ℕ, ◌+◌, ◌<◌, ◌≤◌, Bool, true, false, ◌&&◌, List, [], ◌∷◌, ◌++◌, Option, Some, None, is_some, IsSome, if◌then◌else◌, length, nat_le, refl, sym, ap, ◌∙◌, subst, arith}
 use Rattle.std.specs.List.{list_all}
-use Rattle.std.proofs.lemmas.Bool.Decides.{nat_tests}
-use Rattle.ds_base.proofs.SmallFacts.{and_first, and_second}
+use Rattle.ds_base.proofs.SmallFacts.{and_first, and_second, le_of}
 use Rattle.ds_base.specs.declared.key.Key.{Key}
 use Rattle.ds_base.specs.declared.value.Stamp.{Stamp}
 use Rattle.ds_base.specs.declared.value.Value.{Value}
@@ -56,9 +55,6 @@ pub record IsBegun (c : Cluster) (l : Numbered) : Type 0 where
   pub few : length c.ranges ≤ 1024
   pub leased : list_all is_leased c.ranges ≡ true
   pub stage : Some Closed ≡ next_stage Start l.line
-
-le_of : (n m : ℕ) → nat_le n m ≡ true → n ≤ m
-le_of n m h = grind (arith, nat_tests)
 
 pub cluster-begun : (c : Cluster) (l : Numbered) → l.line ≡ lines.Cluster c → IsSome (next_stage Start l.line) → IsBegun c l
 cluster-begun c l is built =

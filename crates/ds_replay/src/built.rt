@@ -11,7 +11,7 @@ use ds_base::Stamp;
 use ds_kind::{Batch, Request};
 use ds_rule::{Block, ClusterRange};
 use ds_script::{Line, Script};
-use ds_send::batch::{all_plain_reads, is_built};
+use ds_send::{all_plain_reads, is_built};
 use ds_sim::tiles;
 
 /// How far a script has come, as far as its form goes.

@@ -17,12 +17,12 @@ use Rattle.ds_cell.specs.Ask.{Cells, key_of, content_at, Asked, Failed, Gave}
 use Rattle.ds_cell.specs.Change.{wrote, settled}
 use Rattle.ds_cell.specs.Requests.{deed_of, SameAnswer}
 use Rattle.ds_cell.specs.Store.{WriteAt, put_cell, write_all, under_number, settle_all}
-use Rattle.ds_cell.proofs.ByKey.{by_key}
+use Rattle.ds_cell.specs.KeyProofs.{by_key}
 use Rattle.ds_rule.specs.Asking.{Made, Gives, Fails, failure_of, and_before, and_then, made_by, ask_item, ask_all, at_of}
 use Rattle.ds_rule.specs.Deliver.{holds_item}
 use Rattle.ds_rule.specs.World.{Range, start_of, end_of}
 use Rattle.ds_rule.proofs.Puts.{put-at}
-use Rattle.ds_rule.proofs.Tiling.{ascends-insert}
+use Rattle.ds_cell.specs.StoreProofs.{ascends-insert}
 
 -- both rise, and at each key of the span they hold the same
 pub record Both (s e : List ℕ) (xs ys : Cells) : Type 0 where

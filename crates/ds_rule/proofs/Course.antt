@@ -7,6 +7,7 @@ use Rattle.ds_base.specs.Ordered.{key_eq, Ascends}
 use Rattle.ds_base.specs.declared.value.TxnNo.{TxnNo}
 use Rattle.ds_base.proofs.SmallFacts.{and_first, and_second}
 use Rattle.ds_base.proofs.OrderedFacts.{eq_same}
+use Rattle.ds_rule.proofs.Eachs.{each-append}
 use Rattle.ds_desc.specs.declared.meta.Looked.TheVariants as Looked
 use Rattle.ds_kind.specs.Request.{reach_of, span_of}
 use Rattle.ds_kind.specs.declared.batch.Head.{Head}
@@ -279,10 +280,6 @@ pub record Arrived (q : Asking) (v : World) (p first : Store) (got : List Accept
 
 arrived-more : (q : Asking) (v : World) (p first : Store) (xs got : List Accepted) → Each (IsPlain q.head first) xs → Arrived q v p first got → Arrived q v p first (xs ++ got)
 arrived-more q v p first xs got now there = record { stands = there.stands; answers = each-append (IsPlain q.head first) xs got now there.answers }
-  where
-    each-append : {X : Type 0} (P : X → Type 0) (xs ys : List X) → Each P xs → Each P ys → Each P (xs ++ ys)
-    each-append P [] ys a b = b
-    each-append P (x ∷ xs) ys a b = (a.0, each-append P xs ys a.1 b)
 
 -- over all that happened in a call
 pub course : (q : Asking) (floor : ℕ) (hs : List Happening) (w v : World) (p first : Store) → Each IsRead q.items → Each (IsHigh floor) hs → Each (IsOf q) hs → Runs w hs v → OnWay q.head floor w p first → Arrived q v (after_made hs p) first (accepted hs)
@@ -292,7 +289,7 @@ course q floor (Moved e ∷ hs) w v p first read high of r way =
 course q floor (Did (Look k d (Looked.Rows infos)) ∷ hs) w v p first read high of r way =
     course q floor hs r.0 v p first read high.1 of.1 r.2 (way-stays q.head floor w r.0 p first (ap (λ z. z.ranges) r.1.1) (ap (λ z. z.records) r.1.1) way)
 course q floor (Did (Look k d Looked.Lost) ∷ hs) w v p first read high of r way =
-    course q floor hs r.0 v p first read high.1 of.1 r.2 (way-stays q.head floor w r.0 p first (ap (λ z. z.ranges) r.1) (ap (λ z. z.records) r.1) way)
+    course q floor hs r.0 v p first read high.1 of.1 r.2 (way-stays q.head floor w r.0 p first (ap (λ z. z.ranges) r.1.0) (ap (λ z. z.records) r.1.0) way)
 course q floor (Did (Send n piece (Done rs)) ∷ hs) w v p first read high of r way =
     arrived-more q v (after_made hs p) first (pairs piece.head piece.items rs) (accepted hs)
     (piece-plain q floor w p first n piece rs way read of.0 (service w n piece rs r.1.0))

@@ -4,6 +4,7 @@ use Rattle.std.specs.List.{find, list_any, list_all}
 use Rattle.ds_base.specs.declared.value.Stamp.{Stamp}
 use Rattle.ds_base.specs.declared.value.TxnNo.{TxnNo}
 use Rattle.ds_base.proofs.SmallFacts.{and_first, and_second}
+use Rattle.ds_rule.proofs.Service.{held}
 use Rattle.ds_desc.specs.declared.refusal.Refusal.TheVariants.{NotFound, NotLease, Mismatch}
 use Rattle.ds_kind.specs.Request.{span_of}
 use Rattle.ds_kind.specs.declared.batch.Head.{Head}
@@ -88,25 +89,6 @@ tiles_holding p cells s (r ∷ rs) q is fits t =
       | false ↦ λ g. (t.0, tiles_holding p cells (end_of r) rs q g fits t.1)
     ] is
 
--- a piece is served only where the range holds all its items
-
-some_none : {X : Type 0} {G : Type 0} (x : X) → Some x ≡ None → G
-some_none x h = cc
-
-third_by : (a b c : Bool) (x y z : Stop) (o : Option Stop) → cond a (Some x) (cond b (Some y) (cond c (Some z) o)) ≡ None → c ≡ false
-third_by true b c x y z o h = some_none x h
-third_by false true c x y z o h = some_none y h
-third_by false false true x y z o h = some_none z h
-third_by false false false x y z o h = refl
-
-not_false : (b : Bool) → not b ≡ false → b ≡ true
-not_false true h = refl
-not_false false h = sym h
-
-pub served_holds : (w : World) (node : ℕ) (p : Piece) (r : Range) → stops w node p r ≡ None → list_all (holds_item r) p.items ≡ true
-served_holds w node p r h =
-    not_false _ (third_by (not (list_any _ r.info.desc.nodes)) _ (not (list_all (holds_item r) p.items)) (Turned NotFound) (Turned (NotLease r.info.lease)) (Turned (Mismatch (mismatch_rows w p))) (ends (status_stops (find _ w.records))) h)
-
 tiles_made : (s : List ℕ) (w : World) (p : Piece) (r : Range) (m : Made) → find (has_id p.range) w.ranges ≡ Some r → ((a : List ℕ) → Fits a r → FitsMade a r m) → Tiles s w.ranges → Tiles s (world_made w p m).ranges
 tiles_made s w p r (Fails f) is fits t = t
 tiles_made s w p r (Gives cells ws rs) is fits t =
@@ -116,7 +98,7 @@ tiles_made s w p r (Gives cells ws rs) is fits t =
 tiles_at : (s : List ℕ) (w : World) (node : ℕ) (p : Piece) (r : Range) (o : Option Stop) → find (has_id p.range) w.ranges ≡ Some r → stops w node p r ≡ o → Tiles s w.ranges → Tiles s (world_at w p r o).ranges
 tiles_at s w node p r (Some a) is why t = t
 tiles_at s w node p r None is why t =
-    tiles_made s w p r (served p r) is (λ a g. fits_all a r p.head p.items r.cells (served_holds w node p r why) g) t
+    tiles_made s w p r (served p r) is (λ a g. fits_all a r p.head p.items r.cells (held w node p r why) g) t
 
 -- the ranges tile the keys after a delivery
 pub delivered_tiles : (s : List ℕ) (w : World) (node : ℕ) (p : Piece) → Tiles s w.ranges → Tiles s (deliver_world w node p).ranges

@@ -2,8 +2,9 @@
 use Rattle.std.proofs.Common.{◌≡◌, ℕ, ◌==◌, ◌<◌, List, [], ◌∷◌, length, map, None, inl, inr, refl, ap, ◌∙◌, lit<, arith}
 use Rattle.ds_base.specs.Order.{bound}
 use Rattle.ds_base.specs.Ordered.{key_eq}
-use Rattle.ds_base.specs.declared.value.Dir.TheVariants.{Forward}
-use Rattle.ds_desc.specs.Counts.{Rose}
+use Rattle.ds_base.specs.declared.value.Dir.{Dir}
+use Rattle.ds_base.specs.declared.value.Dir.TheVariants.{Forward, Reverse}
+use Rattle.ds_base.specs.Counts.{Rose}
 use Rattle.ds_desc.specs.declared.meta.Looked.TheVariants as Looked
 use Rattle.ds_desc.specs.declared.refusal.Refusal.TheVariants.{NotFound}
 use Rattle.ds_kind.specs.Request.{cut_to, span_of}
@@ -22,7 +23,7 @@ use Rattle.ds_rule.specs.Deliver.{deliver_answer, deliver_world}
 use Rattle.ds_rule.specs.Journal.{Moved, Did, Does, Runs, accepted, steps_of, moves_of}
 use Rattle.ds_rule.specs.Moves.{moved, counted}
 use Rattle.ds_rule.specs.Pieces.{IsCut, IsOneOf, PieceOf}
-use Rattle.ds_rule.specs.World.{World, cell_of}
+use Rattle.ds_rule.specs.World.{World, cell_of, look_rows}
 use Rattle.ds_rule.proofs.Examples.{key_a, key_m, low, high, world, get, put, alone_at, piece, asked_by, asked_at, saying, got, number_in, wrote, differs, never}
 
 -- the lookup of a, as the world answers it
@@ -47,13 +48,35 @@ write_5 = wrote key_a 12 5
 -- ---- steps, one by one
 
 a_lookup_is_answered_by_the_world : Does world look world
-a_lookup_is_answered_by_the_world = (refl, refl)
+a_lookup_is_answered_by_the_world = (refl, refl, refl)
 
 no_row_is_left_out : Does world (Look key_a Forward (Looked.Rows (low.info ∷ []))) world → ⊥
 no_row_is_left_out h = differs h.0 (λ rows. length rows == 1) refl refl
 
 a_lost_lookup_leaves_the_world : Does world (Look key_a Forward Looked.Lost) world
-a_lost_lookup_leaves_the_world = refl
+a_lost_lookup_leaves_the_world = (refl, refl)
+
+-- the lookup of a key, lost or with the rows that the world has there
+abbrev lost_at : List ℕ → Dir → JournalStep
+lost_at k d = Look k d Looked.Lost
+
+abbrev looked_at : List ℕ → Dir → JournalStep
+looked_at k d = Look k d (Looked.Rows (look_rows world k d))
+
+the_least_key_may_be_looked_up_forward : Does world (looked_at [] Forward) world
+the_least_key_may_be_looked_up_forward = (refl, refl, refl)
+
+it_may_not_in_reverse : Does world (looked_at [] Reverse) world → ⊥
+it_may_not_in_reverse h = never h.2
+
+the_bound_may_be_looked_up_in_reverse : Does world (looked_at bound Reverse) world
+the_bound_may_be_looked_up_in_reverse = (refl, refl, refl)
+
+it_may_not_forward : Does world (looked_at bound Forward) world → ⊥
+it_may_not_forward h = never h.2
+
+nor_may_it_where_the_answer_is_lost : Does world (lost_at bound Forward) world → ⊥
+nor_may_it_where_the_answer_is_lost h = never h.1
 
 a_lost_put_may_have_been_made : Does world (Send 1 put_piece Lost) (deliver_world world 1 put_piece)
 a_lost_put_may_have_been_made = inr refl
@@ -71,7 +94,7 @@ a_put_that_is_done_is_made h = differs h.1 (λ w. length (cell_of w key_a).versi
 -- ---- one after another
 
 a_lookup_a_foreign_write_and_a_get_run : Runs world (Did look ∷ Moved write_5 ∷ Did (get_gave 5) ∷ []) (moved world write_5)
-a_lookup_a_foreign_write_and_a_get_run = (world, (refl, refl), (moved world write_5, refl, (moved world write_5, (refl, refl), refl)))
+a_lookup_a_foreign_write_and_a_get_run = (world, (refl, refl, refl), (moved world write_5, refl, (moved world write_5, (refl, refl), refl)))
 
 an_invented_answer_doesnt_run : (v : World) → Runs world (Did (get_gave 8) ∷ []) v → ⊥
 an_invented_answer_doesnt_run v h = differs h.1.0 (λ a. number_in a == 8) refl refl
@@ -137,7 +160,7 @@ before_step_2 : List Timed
 before_step_2 = at_step 2 write_5 ∷ []
 
 a_block_plays_its_steps : BlockPlays (asked_at 20 (get key_a ∷ [])) 1 [] world (look ∷ get_gave 7 ∷ []) world
-a_block_plays_its_steps = (world, tt, (refl, refl), (world, a_get_is_a_piece_of_its_batch (alone_at 20), (refl, refl), refl))
+a_block_plays_its_steps = (world, tt, (refl, refl, refl), (world, a_get_is_a_piece_of_its_batch (alone_at 20), (refl, refl), refl))
 
 a_made_up_reply_doesnt_play : (v : World) → BlockPlays (asked_at 20 (get key_a ∷ [])) 1 [] world (get_gave 8 ∷ []) v → ⊥
 a_made_up_reply_doesnt_play v h = differs h.2.0 (λ a. number_in a == 8) refl refl
@@ -147,7 +170,7 @@ a_step_of_another_batch_doesnt_play v h = another_stamp_isnt_the_batchs h.1
 
 an_event_before_step_2_is_seen_by_it : BlockPlays (asked_at 20 (get key_a ∷ [])) 1 before_step_2 world (look ∷ get_gave 5 ∷ []) (moved world write_5)
 unfolding before_step_2 at_step
-an_event_before_step_2_is_seen_by_it = (world, tt, (refl, refl), (moved world write_5, a_get_is_a_piece_of_its_batch (alone_at 20), (refl, refl), refl))
+an_event_before_step_2_is_seen_by_it = (world, tt, (refl, refl, refl), (moved world write_5, a_get_is_a_piece_of_its_batch (alone_at 20), (refl, refl), refl))
 
 it_isnt_made_after_step_2 : (v : World) → BlockPlays (asked_at 20 (get key_a ∷ [])) 1 before_step_2 world (look ∷ get_gave 7 ∷ []) v → ⊥
 unfolding before_step_2 at_step
@@ -175,7 +198,7 @@ a_call_adds_its_step = record {
   moves = [];
   above = tt;
   grown = refl;
-  runs = (world, (refl, refl), refl);
+  runs = (world, (refl, refl, refl), refl);
   floor = refl;
   ahead = refl;
   refused = omega arith;
@@ -183,6 +206,9 @@ a_call_adds_its_step = record {
   refuses = λ h. absurd h;
   loses = λ h. absurd h;
 }
+
+a_block_looks_up_where_some_key_lies_ahead : (v : World) → BlockPlays (asked_at 20 (get key_a ∷ [])) 1 [] world (looked_at bound Forward ∷ []) v → ⊥
+a_block_looks_up_where_some_key_lies_ahead v h = never h.2.2
 
 never_rose : Rose 0 0 → ⊥
 never_rose h = omega arith

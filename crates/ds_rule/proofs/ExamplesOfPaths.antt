@@ -112,7 +112,7 @@ a_lookup_and_a_get_are_a_path = record {
   routed = a_send_after_its_lookup_is_routed;
   losses = ((λ h. absurd h), ((λ h. absurd h), tt));
   grown = refl;
-  runs = (world, (refl, refl), (world, (refl, refl), refl));
+  runs = (world, (refl, refl, refl), (world, (refl, refl), refl));
   floor = refl;
   gives = refl;
 }

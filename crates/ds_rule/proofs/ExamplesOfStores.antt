@@ -13,7 +13,7 @@ use Rattle.ds_kind.specs.declared.request.Request.{Request}
 use Rattle.ds_cell.specs.declared.entry.Version.{Version}
 use Rattle.ds_cell.specs.Ask.{content_of, content_at}
 use Rattle.ds_cell.specs.Content.{Content, no_content}
-use Rattle.ds_cell.specs.Replies.{join_bodies}
+use Rattle.ds_kind.specs.Bodies.{join_bodies}
 use Rattle.ds_cell.specs.Store.{Store, StoreTxn, Live, FailedSince, Unknown, Fate, Pending, Committed, Aborted, empty_store}
 use Rattle.ds_rule.specs.declared.answer.Answer.TheVariants.{Done}
 use Rattle.ds_rule.specs.declared.answer.Outcome.{Outcome}

@@ -94,11 +94,3 @@ nothing-stops w p all is = ap (λ n. status_stops (find (λ t. t.txn.0 == n) w.r
 pub runs-cut : (w v : World) (xs ys : List Happening) → Runs w (xs ++ ys) v → (m : World) × Runs w xs m × Runs m ys v
 runs-cut w v [] ys r = (w, refl, r)
 runs-cut w v (x ∷ xs) ys r = let k = runs-cut r.0 v xs ys r.2 in (k.0, (r.0, r.1, k.1), k.2)
-
-pub each-left : {X : Type 0} (P : X → Type 0) (xs ys : List X) → Each P (xs ++ ys) → Each P xs
-each-left P [] ys all = tt
-each-left P (x ∷ xs) ys all = (all.0, each-left P xs ys all.1)
-
-pub each-right : {X : Type 0} (P : X → Type 0) (xs ys : List X) → Each P (xs ++ ys) → Each P ys
-each-right P [] ys all = all
-each-right P (x ∷ xs) ys all = each-right P xs ys all.1

@@ -1,5 +1,6 @@
 -- Pieces of one request after another: what is gathered of them.
 use Rattle.std.proofs.Common.{◌≡◌, ℕ, ◌≤◌, ◌<◌, ◌⊎◌, Bool, true, false, cond, ◌&&◌, ◌==◌, List, [], ◌∷◌, ◌++◌, filter, Option, Some, None, inl, inr, refl, sym, ap, ◌∙◌, subst, append_assoc, eq-eqb, ne_eqb, arith}
+use Rattle.ds_base.proofs.SmallFacts.{append_nil}
 use Rattle.ds_base.specs.Order.{key_lt, key_le, after}
 use Rattle.ds_base.proofs.OrderedFacts.{not_lt_of_le, le_of_lt}
 use Rattle.ds_kind.specs.Reach.{Reach, At, Over}
@@ -11,13 +12,14 @@ use Rattle.ds_kind.specs.declared.reply.Reply.{Reply}
 use Rattle.ds_kind.specs.declared.reply.Row.{Row}
 use Rattle.ds_kind.specs.declared.request.Request.{Request}
 use Rattle.ds_kind.specs.declared.request.Request.TheVariants.{Get, Scan, ReverseScan, Put, ConditionalPut, InitPut, Increment, Delete, DeleteRange, EndTxn, QueryIntent, ResolveIntent, ResolveIntentRange, AdminSplit, AdminTransferLease}
-use Rattle.ds_cell.specs.Replies.{Bits, body_of, join_bodies, join_rows, join_keys}
-use Rattle.ds_rule.specs.Gathered.{begins_at, put_by_start, by_start, is_at, at_position, goes_down, IsBody, Joins, IsGathered, Gathered}
-use Rattle.ds_cell.proofs.ReplyFacts.{bodies_join}
+use Rattle.ds_kind.specs.Bodies.{goes_down, join_bodies, join_rows, join_keys}
+use Rattle.ds_cell.specs.Replies.{Bits, body_of}
+use Rattle.ds_rule.specs.Gathered.{begins_at, put_by_start, by_start, is_at, at_position, IsBody, Joins, IsGathered, Gathered}
+use Rattle.ds_cell.specs.BodyProofs.{bodies_join}
 use Rattle.ds_rule.specs.Journal.{Accepted}
 use Rattle.ds_rule.specs.Pieces.{Each}
 use Rattle.ds_rule.proofs.Joining.{joins-le}
-use Rattle.ds_rule.proofs.Routes.{append-nil, le_itself}
+use Rattle.ds_rule.proofs.Routes.{le_itself}
 
 -- joining is the same whichever two are joined first
 
@@ -82,14 +84,14 @@ join-is (AdminTransferLease a) xs ys = record { bits = xs; is = refl }
 
 pub join-nothing : (r : Request) (xs : Bits) → join_bodies (goes_down r) (body_of r xs) (body_of r []) ≡ body_of r xs
 join-nothing (Get a) xs = refl
-join-nothing (Scan a) xs = ap Body.Rows (append-nil _)
+join-nothing (Scan a) xs = ap Body.Rows (append_nil _)
 join-nothing (ReverseScan a) xs = refl
 join-nothing (Put a) xs = refl
 join-nothing (ConditionalPut a) xs = refl
 join-nothing (InitPut a) xs = refl
 join-nothing (Increment a) xs = refl
 join-nothing (Delete a) xs = refl
-join-nothing (DeleteRange a) xs = ap Body.Gone (append-nil _)
+join-nothing (DeleteRange a) xs = ap Body.Gone (append_nil _)
 join-nothing (EndTxn a) xs = refl
 join-nothing (QueryIntent a) xs = refl
 join-nothing (ResolveIntent a) xs = refl
@@ -146,7 +148,7 @@ pub front-done : (i : Item) (s e : List ℕ) (got : List Accepted) (body : Body)
 front-done i s e got body f =
     let nothing : join_bodies (goes_down i.request) body (body_of i.request []) ≡ body =
     ap (λ x. join_bodies (goes_down i.request) x (body_of i.request [])) f.kind.is ∙ join-nothing i.request f.kind.bits ∙ sym f.kind.is in
-    subst (Joins i s e got) nothing (subst (λ xs. Joins i s e xs (join_bodies (goes_down i.request) body (body_of i.request []))) (append-nil got) (f.goes e [] (body_of i.request []) (refl, refl)))
+    subst (Joins i s e got) nothing (subst (λ xs. Joins i s e xs (join_bodies (goes_down i.request) body (body_of i.request []))) (append_nil got) (f.goes e [] (body_of i.request []) (refl, refl)))
 
 -- where the pieces stand
 
@@ -241,7 +243,7 @@ gathered-on n got more (i ∷ is) (r ∷ rs) below at g = (
   record {
     whole = g.0.whole;
     joins = subst (λ xs. Joins i (span_of i.request).start (span_of i.request).end (by_start xs) r.body)
-        (sym (at-append i.pos got more ∙ ap (λ xs. at_position i.pos got ++ xs) (at-others i.pos n more below.0 at) ∙ append-nil (at_position i.pos got))) g.0.joins;
+        (sym (at-append i.pos got more ∙ ap (λ xs. at_position i.pos got ++ xs) (at-others i.pos n more below.0 at) ∙ append_nil (at_position i.pos got))) g.0.joins;
   },
   gathered-on n got more is rs below.1 at g.1,
 )

@@ -18,11 +18,12 @@ use Rattle.ds_kind.specs.declared.reply.Reply.{Reply}
 use Rattle.ds_kind.specs.declared.request.Request.{Request}
 use Rattle.ds_kind.specs.declared.request.Request.TheVariants.{Get, Scan, ReverseScan, Put, ConditionalPut, InitPut, Increment, Delete, DeleteRange, EndTxn, QueryIntent, ResolveIntent, ResolveIntentRange, AdminSplit, AdminTransferLease}
 use Rattle.ds_cell.specs.Ask.{Cells, key_of, places}
-use Rattle.ds_cell.specs.Replies.{body_of, join_bodies, value_in}
+use Rattle.ds_kind.specs.Bodies.{goes_down, join_bodies}
+use Rattle.ds_cell.specs.Replies.{body_of, value_in}
 use Rattle.ds_cell.specs.Seen.{seen}
-use Rattle.ds_cell.proofs.ReplyFacts.{bodies_join}
+use Rattle.ds_cell.specs.BodyProofs.{bodies_join}
 use Rattle.ds_rule.specs.Asking.{Asking, Gives, ask_all, at_of}
-use Rattle.ds_rule.specs.Gathered.{begins_at, put_by_start, by_start, is_at, at_position, goes_down, Joins, IsGathered, Gathered}
+use Rattle.ds_rule.specs.Gathered.{begins_at, put_by_start, by_start, is_at, at_position, Joins, IsGathered, Gathered}
 use Rattle.ds_rule.specs.Journal.{Accepted}
 use Rattle.ds_rule.specs.Pieces.{Each}
 use Rattle.ds_rule.proofs.Reading.{read_bits, shown_by, shown-append, body-cut}

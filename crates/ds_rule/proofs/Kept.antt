@@ -5,6 +5,7 @@ use Rattle.ds_base.specs.Order.{holds}
 use Rattle.ds_base.specs.Ordered.{between}
 use Rattle.ds_base.specs.declared.value.Value.{Value}
 use Rattle.ds_base.proofs.SmallFacts.{and_first, and_second}
+use Rattle.ds_rule.proofs.Eachs.{each-append, each-left, each-right}
 use Rattle.ds_kind.specs.Reach.{Reach, At, Over, extent_of}
 use Rattle.ds_kind.specs.Request.{reach_of, span_of}
 use Rattle.ds_kind.specs.declared.batch.Head.{Head}
@@ -23,7 +24,6 @@ use Rattle.ds_rule.specs.Deliver.{holds_item}
 use Rattle.ds_rule.specs.Pieces.{Each}
 use Rattle.ds_rule.specs.World.{Range, start_of, end_of}
 use Rattle.ds_rule.proofs.Alike.{in-range}
-use Rattle.ds_rule.proofs.Failing.{each-left, each-right}
 
 -- what each write at a key of N keeps
 
@@ -101,10 +101,6 @@ made-within r h i (Gave bs ws) cells fits all = each ws all
     each : (ws : List (List ℕ × Option Value)) → KeysIn (span_of i.request).start (span_of i.request).end ws → Each (λ w. holds (start_of r) (end_of r) w.key ≡ true) (under_number (at_of h i.seq.0) ws)
     each [] all = tt
     each (w ∷ ws) all = (in-range r i w.0 fits all.0, each ws all.1)
-
-pub each-append : {X : Type 0} (P : X → Type 0) (xs ys : List X) → Each P xs → Each P ys → Each P (xs ++ ys)
-each-append P [] ys a b = b
-each-append P (x ∷ xs) ys a b = (a.0, each-append P xs ys a.1 b)
 
 before-within : (s e : List ℕ) (ws : List WriteAt) (rs : List Reply) (m : Made) → Each (λ w. holds s e w.key ≡ true) ws → Within s e m → Within s e (and_before ws rs m)
 before-within s e ws rs (Fails f) a b = tt

@@ -1,9 +1,11 @@
 pub mod Alike
 pub mod Course
 pub mod Delivered
+pub mod Eachs
 pub mod Examples
 pub mod ExamplesOfJournals
 pub mod ExamplesOfPaths
+pub mod ExamplesOfShifts
 pub mod ExamplesOfStores
 pub mod Failing
 pub mod Gathering

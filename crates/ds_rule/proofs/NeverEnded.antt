@@ -2,6 +2,8 @@
 use Rattle.std.proofs.Common.{◌≡◌, ℕ, ◌==◌, true, List, [], ◌∷◌, Option, Some, None, refl, sym, ap, ◌∙◌, subst}
 use Rattle.std.specs.List.{find}
 use Rattle.ds_base.specs.declared.value.TxnNo.{TxnNo}
+use Rattle.ds_base.proofs.SmallFacts.{none_some}
+use Rattle.ds_rule.proofs.Eachs.{each-left, each-right}
 use Rattle.ds_desc.specs.declared.meta.Looked.TheVariants as Looked
 use Rattle.ds_kind.specs.declared.batch.Batch.{Batch}
 use Rattle.ds_kind.specs.declared.batch.Piece.{Piece}
@@ -22,9 +24,8 @@ use Rattle.ds_rule.specs.Pieces.{Each, PieceOf}
 use Rattle.ds_rule.specs.Plain.{is_pending}
 use Rattle.ds_rule.specs.StandsFor.{HasRecordOf, IsWho, Knows, Ready, record_for, record_number}
 use Rattle.ds_rule.specs.World.{World, Range}
-use Rattle.ds_rule.proofs.Failing.{ByItem, ByRecord, Why, each-left, each-right, none-named, runs-cut, status_of, why}
+use Rattle.ds_rule.proofs.Failing.{ByItem, ByRecord, Why, none-named, runs-cut, status_of, why}
 use Rattle.ds_rule.proofs.Own.{IsOfRecord, never-of-record}
-use Rattle.ds_rule.proofs.ReadLaw.{no-failure}
 use Rattle.ds_rule.proofs.Recorded.{Pends, find-last, known-last}
 
 -- steps leave the records as they are
@@ -90,5 +91,5 @@ never-ended batch q a b p f got path quiet ready pend ended last = by (why cut.0
         ∙ pending-free q.head.txn p.txn a.world.records ready.who ready.knows ready.stands.recorded ready.stands.numbers ready.stands.named pend
 
     by : Why cut.0 last.node last.piece f → ⊥
-    by (ByRecord is) = no-failure f (sym free ∙ is)
+    by (ByRecord is) = none_some f (sym free ∙ is)
     by (ByItem r found goes fails) = never-of-record last.piece.head last.piece.items r.cells f ended fails

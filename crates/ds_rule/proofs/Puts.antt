@@ -11,11 +11,11 @@ use Rattle.ds_base.proofs.OrderedFacts.{le_of_not_lt, eq_same, at-none, gt_not_e
 use Rattle.ds_cell.specs.Content.{Content}
 use Rattle.ds_cell.specs.Ask.{Cells, key_of, content_of, content_at}
 use Rattle.ds_cell.specs.Store.{put_cell}
+use Rattle.ds_cell.specs.StoreProofs.{content-put}
 use Rattle.ds_rule.specs.World.{Range, start_of, end_of, contents, Tiles}
 use Rattle.ds_rule.specs.Deliver.{replaced}
 use Rattle.ds_rule.specs.Moves.{holds_key}
 use Rattle.ds_rule.proofs.Routes.{inside-below, contents-from, over-of-from, le_itself}
-use Rattle.ds_rule.proofs.Tiling.{below}
 
 insert-over : (k : List ℕ) (c : Content) (ys : Cells) → AllOver key_of k ys → insert_entry key_cmp ys k c ≡ (k, c) ∷ ys
 insert-over k c [] all = refl
@@ -91,24 +91,6 @@ contents-put k f s (r ∷ rs) t low high =
     from : key_le (start_of r) k ≡ true
     from = subst (λ z. key_le z k ≡ true) (sym t.0.begins) low
 
-equal_same : (k q : List ℕ) → key_cmp k q ≡ Equal → k ≡ q
-equal_same k q h = eq_same k q (ap is_eq h)
-
 -- what stands at each key after one was changed
-pub insert-at : (k q : List ℕ) (c : Content) (cells : Cells) → Ascends key_of cells → content_at q (insert_entry key_cmp cells k c) ≡ cond (key_eq k q) c (content_at q cells)
-insert-at k q c [] asc = elim (key_eq k q) as (λ t. content_of (cond t (Some (k, c)) None) ≡ cond t c (content_at q [])) [ true ↦ refl | false ↦ refl ]
-insert-at k q c (p ∷ ps) asc =
-    elim (key_cmp k p.0) as (λ o. key_cmp k p.0 ≡ o → content_at q (match_ordering o ((k, c) ∷ p ∷ ps) ((p.0, c) ∷ ps) (p ∷ insert_entry key_cmp ps k c)) ≡ cond (key_eq k q) c (content_at q (p ∷ ps))) [
-      | Less ↦ λ h. elim (key_eq k q) as (λ t. content_of (cond t (Some (k, c)) (at_key key_of q (p ∷ ps))) ≡ cond t c (content_at q (p ∷ ps))) [ true ↦ refl | false ↦ refl ]
-      | Equal ↦ λ h.
-          subst (λ z. content_of (cond (key_eq p.0 q) (Some (p.0, c)) (at_key key_of q ps)) ≡ cond (key_eq z q) c (content_of (cond (key_eq p.0 q) (Some p) (at_key key_of q ps)))) (sym (equal_same k p.0 h))
-          (elim (key_eq p.0 q) as (λ t. content_of (cond t (Some (p.0, c)) (at_key key_of q ps)) ≡ cond t c (content_of (cond t (Some p) (at_key key_of q ps)))) [ true ↦ refl | false ↦ refl ])
-      | Greater ↦ λ h.
-          elim (key_eq p.0 q) as (λ t. key_eq p.0 q ≡ t → content_of (cond t (Some p) (at_key key_of q (insert_entry key_cmp ps k c))) ≡ cond (key_eq k q) c (content_of (cond t (Some p) (at_key key_of q ps)))) [
-            | true ↦ λ e. ap (λ t. cond t c p.1) (sym (subst (λ z. key_eq k z ≡ false) (eq_same p.0 q e) (gt_not_eq p.0 k (below k p.0 h))))
-            | false ↦ λ e. insert-at k q c ps asc.1
-          ] refl
-    ] refl
-
 pub put-at : (k q : List ℕ) (f : Content → Content) (cells : Cells) → Ascends key_of cells → content_at q (put_cell k f cells) ≡ cond (key_eq k q) (f (content_at k cells)) (content_at q cells)
-put-at k q f cells asc = insert-at k q (f (content_at k cells)) cells asc
+put-at k q f cells asc = content-put k q f cells

@@ -3,6 +3,8 @@ use Rattle.std.proofs.Common.{◌≡◌, ℕ, ◌<◌, ◌≤◌, ◌+◌, ◌�
 use Rattle.std.specs.Option.{option_map}
 use Rattle.ds_base.specs.declared.value.Stamp.{Stamp}
 use Rattle.ds_base.specs.declared.value.TxnNo.{TxnNo}
+use Rattle.ds_base.proofs.SmallFacts.{none_some}
+use Rattle.ds_rule.proofs.Eachs.{each-left, each-right}
 use Rattle.ds_kind.specs.declared.batch.Batch.{Batch}
 use Rattle.ds_kind.specs.declared.batch.Head.{Head}
 use Rattle.ds_kind.specs.declared.batch.Item.{Item}
@@ -31,7 +33,7 @@ use Rattle.ds_rule.specs.Plain.{Answered, IsPlainOk, IsInDoubt, uses_numbers, as
 use Rattle.ds_rule.specs.StandsFor.{IsAt, open_stamp, IsIntentOf, HasRecord, HasRecordOf, record_for, status_for, StandsFor, after_made, IsBefore, IsKnown, IsWho, Knows, Ready}
 use Rattle.ds_rule.specs.World.{World, cell_of}
 use Rattle.ds_rule.proofs.Course.{OnWay, IsPlain, Arrived, course}
-use Rattle.ds_rule.proofs.Failing.{reads-fail, nothing-stops, runs-cut, each-left, each-right}
+use Rattle.ds_rule.proofs.Failing.{reads-fail, nothing-stops, runs-cut}
 use Rattle.ds_rule.proofs.Joining.{gathered-asks, joined-some}
 use Rattle.ds_rule.proofs.Recorded.{Pends, known-last}
 use Rattle.ds_rule.proofs.Truth.{IsRead, IsTrue, cuts-read, finished-nothing}
@@ -131,7 +133,7 @@ failed-known n (FailedSince i) k = tt
 failed-known n (Unknown ws) k = k
 failed-known n (OverWith s) k = tt
 
-known-failed : (n : ℕ) (m : Mode) → IsKnown m → IsKnown (failed_mode n m)
+pub known-failed : (n : ℕ) (m : Mode) → IsKnown m → IsKnown (failed_mode n m)
 known-failed n Live k = tt
 known-failed n (FailedSince i) k = tt
 known-failed n (Unknown ws) k = k
@@ -300,9 +302,6 @@ stamped-head s t b q h = sym (ap txn_in h)
     txn_in None = None
     txn_in (Some z) = z.head.txn
 
-pub no-failure : (f : Failure) → None ≡ Some f → ⊥
-no-failure f h = cc
-
 never-committed : (a b : Stands) (p : Store) (batch : Batch) (q : Asking) (got : List Accepted) (f : Failure) → IsReading batch q → (path : Path q a b got) → Ready a p batch q → q.head.txn ≡ None → LastFails f path.added → ⊥
 never-committed a b p batch q got f reading path ready alone last =
     let step = Stepped (Send last.node last.piece (Failed f)) ∷ [] in
@@ -312,7 +311,7 @@ never-committed a b p batch q got f reading path ready alone last =
     let here = (each-right (IsOf q) last.before step of).0 in
     let at = course q a.floor last.before a.world cut.0 p p (each-read q.items reading.reads) high (each-left (IsOf q) last.before step of) cut.1 (way-known a p batch q p.txn (like-itself p.txn) (λ k. k) ready) in
     let stops = reads-fail cut.0 last.node last.piece f (cuts-read last.piece.items q.items (each-read q.items reading.reads) here.cuts) cut.2.1.0 in
-    no-failure f (sym (nothing-stops cut.0 last.piece at.stands.named (ap txn_of here.head ∙ ap txn_number alone)) ∙ stops)
+    none_some f (sym (nothing-stops cut.0 last.piece at.stands.named (ap txn_of here.head ∙ ap txn_number alone)) ∙ stops)
 
 doubt-by : (at : Option Stamp) (a b : Stands) (p : Store) (batch : Batch) (q : Asking) (lost : ℕ) (got : List Accepted) → batch.at ≡ at → IsReading batch q → (path : Path q a b got) → Ready a p batch q → LastFails Failure.Committed path.added → LeadsTo a b p batch (Outcome.Ambiguous lost)
 doubt-by None a b p batch q lost got is reading path ready last = led-doubt a b p batch q lost got reading path ready is

@@ -27,7 +27,7 @@ use Rattle.ds_cell.specs.Ask.{Cell, Cells, key_of, content_of, content_at, Asked
 use Rattle.ds_cell.specs.LawProofs.{guarded-keep, own_span, join_all}
 use Rattle.ds_cell.specs.Replies.{Bits, body_of}
 use Rattle.ds_cell.specs.Requests.{deed_of, ask_request, SameAnswer}
-use Rattle.ds_cell.proofs.ByKey.{by_key}
+use Rattle.ds_cell.specs.KeyProofs.{by_key}
 use Rattle.ds_cell.proofs.LaterFacts.{version_at-made}
 use Rattle.ds_rule.specs.StandsFor.{IsAt}
 

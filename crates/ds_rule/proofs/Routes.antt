@@ -4,7 +4,7 @@ use Rattle.std.specs.List.{find}
 use Rattle.ds_base.specs.Order.{key_lt, key_le}
 use Rattle.ds_base.specs.Ordered.{AllOver, AllFrom, AllBelow, Ascends, between}
 use Rattle.ds_base.proofs.KeyOrder.{key_le-not_lt, key_lt-irrefl}
-use Rattle.ds_base.proofs.SmallFacts.{and_first, and_second}
+use Rattle.ds_base.proofs.SmallFacts.{and_first, and_second, append_nil}
 use Rattle.ds_base.proofs.OrderedFacts.{le_of_lt, le_trans, lt_le_trans, over-append, cut-append, none-from, none-below}
 use Rattle.ds_cell.specs.Ask.{Cell, key_of}
 use Rattle.ds_rule.specs.World.{Range, start_of, end_of, contents, Inside, Tiles}
@@ -15,7 +15,7 @@ pub inside-below : (s e m : List ℕ) (cells : List Cell) → key_le e m ≡ tru
 inside-below s e m [] h all = tt
 inside-below s e m (p ∷ ps) h all = (lt_le_trans p.0 e m (and_second (key_le s p.0) _ all.0) h, inside-below s e m ps h all.1)
 
-inside-from : (s e m : List ℕ) (cells : List Cell) → key_le m s ≡ true → Inside s e cells → AllFrom key_of m cells
+pub inside-from : (s e m : List ℕ) (cells : List Cell) → key_le m s ≡ true → Inside s e cells → AllFrom key_of m cells
 inside-from s e m [] h all = tt
 inside-from s e m (p ∷ ps) h all = (le_trans m s p.0 h (and_first _ _ all.0), inside-from s e m ps h all.1)
 
@@ -34,7 +34,7 @@ pub over-of-from : (k m : List ℕ) (cells : List Cell) → key_lt k m ≡ true 
 over-of-from k m [] h all = tt
 over-of-from k m (p ∷ ps) h all = (lt_le_trans k m p.0 h all.0, over-of-from k m ps h all.1)
 
-ascends-append : (m : List ℕ) (xs ys : List Cell) → Ascends key_of xs → AllBelow key_of m xs → Ascends key_of ys → AllFrom key_of m ys → Ascends key_of (xs ++ ys)
+pub ascends-append : (m : List ℕ) (xs ys : List Cell) → Ascends key_of xs → AllBelow key_of m xs → Ascends key_of ys → AllFrom key_of m ys → Ascends key_of (xs ++ ys)
 ascends-append m [] ys a b c d = c
 ascends-append m (x ∷ xs) ys a b c d =
     (over-append key_of x.0 xs ys a.0 (over-of-from x.0 m ys b.0 d), ascends-append m xs ys a.1 b.1 c d)
@@ -63,10 +63,6 @@ found-from p s (r ∷ rs) q t h =
       | false ↦ λ e g. le_trans s (end_of r) (start_of q) (le_of_lt s (end_of r) t.0.some) (found-from p (end_of r) rs q t.1 g)
     ] refl h
 
-pub append-nil : {X : Type 0} (xs : List X) → xs ++ [] ≡ xs
-append-nil [] = refl
-append-nil (x ∷ xs) = ap (λ zs. x ∷ zs) (append-nil xs)
-
 -- a span within one range shows the same of the range as of all contents
 pub range-between : (p : Range → Bool) (a : List ℕ) (rs : List Range) (q : Range) (s e : List ℕ) → Tiles a rs → find p rs ≡ Some q → key_le (start_of q) s ≡ true → key_le e (end_of q) ≡ true → between key_of s e q.cells ≡ between key_of s e (contents rs)
 range-between p a [] q s e t h low high = cc
@@ -76,7 +72,7 @@ range-between p a (r ∷ rs) q s e t h low high =
           let same : q ≡ r = cc in
           let rest : between key_of s e (contents rs) ≡ [] =
           none-from key_of s e (contents rs) (contents-from e (end_of r) rs (subst (λ z. key_le e (end_of z) ≡ true) same high) t.1) in
-          ap (λ z. between key_of s e z.cells) same ∙ sym (append-nil _) ∙ ap (λ zs. between key_of s e r.cells ++ zs) (sym rest) ∙ sym (cut-append key_of s e r.cells (contents rs))
+          ap (λ z. between key_of s e z.cells) same ∙ sym (append_nil _) ∙ ap (λ zs. between key_of s e r.cells ++ zs) (sym rest) ∙ sym (cut-append key_of s e r.cells (contents rs))
       | false ↦ λ g.
           let after : key_le (end_of r) (start_of q) ≡ true = found-from p (end_of r) rs q t.1 g in
           let none : between key_of s e r.cells ≡ [] =

@@ -20,7 +20,8 @@ use Rattle.ds_rule.proofs.Kept.{IsKept, Keeps, all-keeps}
 use Rattle.ds_rule.proofs.Puts.{put-at}
 use Rattle.ds_rule.proofs.Replacing.{not-both}
 use Rattle.ds_rule.proofs.Standing.{none-last}
-use Rattle.ds_rule.proofs.Tiling.{ascends-insert, inside-insert}
+use Rattle.ds_cell.specs.StoreProofs.{ascends-insert}
+use Rattle.ds_rule.proofs.Tiling.{inside-insert}
 
 -- no intent, and nothing that waits
 pub record IsClear (c : Content) : Type 0 where

@@ -22,7 +22,8 @@ use Rattle.ds_rule.specs.StandsFor.{IsAt, AllUpTo, open_stamp, IsIntentOf, HasRe
 use Rattle.ds_rule.specs.World.{World, Range, contents, cell_of, Tiles}
 use Rattle.ds_rule.proofs.Puts.{contents-put, put-at}
 use Rattle.ds_rule.proofs.Routes.{contents-ascend}
-use Rattle.ds_rule.proofs.Tiling.{tiles-put, ascends-insert}
+use Rattle.ds_cell.specs.StoreProofs.{ascends-insert}
+use Rattle.ds_rule.proofs.Tiling.{tiles-put}
 
 fold-more : (vs ws : List Version) (v : Version) → fold made vs (ws ++ v ∷ []) ≡ made (fold made vs ws) v
 fold-more vs [] v = refl
@@ -81,7 +82,7 @@ intent-put : (o : Option StoreTxn) (v : Version) (t : Bool) (c c' : Content) →
 intent-put o v true c c' h h' = intent-by o (last_of c.history) v c h
 intent-put o v false c c' h h' = h'
 
-least : (k : List ℕ) → key_le [] k ≡ true
+pub least : (k : List ℕ) → key_le [] k ≡ true
 least [] = refl
 least (x ∷ xs) = refl
 

@@ -17,6 +17,7 @@ use Rattle.ds_rule.specs.World.{Range, end_of, Inside, Fits, Tiles}
 use Rattle.ds_rule.specs.Begin.{next_start, ranges_of, rises}
 use Rattle.ds_rule.specs.Deliver.{replaced}
 use Rattle.ds_cell.specs.Store.{put_cell}
+use Rattle.ds_cell.specs.StoreProofs.{ascends-insert}
 use Rattle.ds_rule.specs.Moves.{holds_key}
 
 -- a cluster's ranges tile from their first start on
@@ -35,32 +36,6 @@ inside-insert s e k c (p ∷ ps) h all =
       | Equal ↦ all
       | Greater ↦ (all.0, inside-insert s e k c ps h all.1)
     ]
-
-over-insert : (q k : List ℕ) (c : Content) (cells : List Cell) → key_lt q k ≡ true → AllOver key_of q cells → AllOver key_of q (insert_entry key_cmp cells k c)
-over-insert q k c [] h all = (h, tt)
-over-insert q k c (p ∷ ps) h all =
-    elim (key_cmp k p.0) as (λ o. AllOver key_of q (match_ordering o ((k, c) ∷ p ∷ ps) ((p.0, c) ∷ ps) (p ∷ insert_entry key_cmp ps k c))) [
-      | Less ↦ (h, all)
-      | Equal ↦ all
-      | Greater ↦ (all.0, over-insert q k c ps h all.1)
-    ]
-
-turned : (o : Ordering) → o ≡ Greater → is_lt (ordering_reverse o) ≡ true
-turned Less h = cc
-turned Equal h = cc
-turned Greater h = refl
-
-pub below : (k q : List ℕ) → key_cmp k q ≡ Greater → key_lt q k ≡ true
-below k q h = ap is_lt (nat_list_cmp_total.antisymm q k) ∙ turned (key_cmp k q) h
-
-pub ascends-insert : (k : List ℕ) (c : Content) (cells : List Cell) → Ascends key_of cells → Ascends key_of (insert_entry key_cmp cells k c)
-ascends-insert k c [] asc = (tt, tt)
-ascends-insert k c (p ∷ ps) asc =
-    elim (key_cmp k p.0) as (λ o. key_cmp k p.0 ≡ o → Ascends key_of (match_ordering o ((k, c) ∷ p ∷ ps) ((p.0, c) ∷ ps) (p ∷ insert_entry key_cmp ps k c))) [
-      | Less ↦ λ h. let low : key_lt k p.0 ≡ true = ap is_lt h in ((low, over-below key_of k p.0 ps low asc.0), asc)
-      | Equal ↦ λ h. (asc.0, asc.1)
-      | Greater ↦ λ h. (over-insert p.0 k c ps (below k p.0 h) asc.0, ascends-insert k c ps asc.1)
-    ] refl
 
 -- a range stays in its place when one of its keys is written
 pub fits-put : (s : List ℕ) (r : Range) (k : List ℕ) (f : Content → Content) → holds_key k r ≡ true → Fits s r → Fits s (record r { cells = put_cell k f r.cells })

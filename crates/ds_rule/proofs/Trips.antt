@@ -1,9 +1,10 @@
 -- Ways that one call of a sender goes, one after the other.
 use Rattle.std.proofs.Common.{◌≡◌, ℕ, ◌+◌, ◌≤◌, ◌<◌, true, false, nat_lt, List, [], ◌∷◌, ◌++◌, map, Option, Some, None, inl, inr, refl, sym, ap, ◌∙◌, subst, append_assoc, arith}
-use Rattle.std.proofs.lemmas.Bool.Decides.{nat_tests}
 use Rattle.ds_base.specs.declared.value.Dir.{Dir}
 use Rattle.ds_base.specs.declared.value.Dir.TheVariants.{Forward}
-use Rattle.ds_desc.specs.Counts.{Rose}
+use Rattle.ds_base.specs.Counts.{Rose, last_count}
+use Rattle.ds_base.proofs.SmallFacts.{append_nil, ge_of, lt_of}
+use Rattle.ds_rule.proofs.Eachs.{each-append}
 use Rattle.ds_desc.specs.declared.desc.Info.{Info}
 use Rattle.ds_desc.specs.declared.meta.Looked.TheVariants as Looked
 use Rattle.ds_kind.specs.declared.batch.Piece.{Piece}
@@ -18,11 +19,6 @@ use Rattle.ds_rule.specs.Journal.{Happening, Moved, Did, Runs, Accepted, accepte
 use Rattle.ds_rule.specs.Path.{AreRouted, GoesTo, IsHigh, IsOf, IsRouted, IsStepOf, LosesOnly, route_by}
 use Rattle.ds_rule.specs.Pieces.{Each, PieceOf}
 use Rattle.ds_rule.specs.World.{World}
-use Rattle.ds_rule.proofs.Routes.{append-nil}
-
-pub each-append : {X : Type 0} (P : X → Type 0) (xs ys : List X) → Each P xs → Each P ys → Each P (xs ++ ys)
-each-append P [] ys a b = b
-each-append P (x ∷ xs) ys a b = (a.0, each-append P xs ys a.1 b)
 
 pub runs-append : (w m v : World) (xs ys : List Happening) → Runs w xs m → Runs m ys v → Runs w (xs ++ ys) v
 runs-append w m v [] ys r q = subst (λ u. Runs u ys v) r q
@@ -50,20 +46,18 @@ lost-append (Did s ∷ xs) ys = ap (λ n. losses_of s + n) (lost-append xs ys) �
 
 rose-left : (a b c : ℕ) → Rose a b → b ≤ c → Rose a c
 rose-left a b c (inl h) le = inl (omega (arith, h, le))
-rose-left a b c (inr h) le = inr h
-
-lt_of : (n m : ℕ) → nat_lt n m ≡ true → n < m
-lt_of n m h = grind (arith, nat_tests)
-
-ge_of : (n m : ℕ) → nat_lt n m ≡ false → m ≤ n
-ge_of n m h = grind (arith, nat_tests)
+rose-left a b c (inr h) le =
+    elim (nat_lt a c) as (λ t. nat_lt a c ≡ t → Rose a c) [
+      | true ↦ λ e. inl (lt_of a c e)
+      | false ↦ λ e. let low = ge_of a c e in inr (h.0, let same : c ≡ last_count = omega (arith, low, le, h.0, h.1) in same)
+    ] refl
 
 rose-right : (a b c : ℕ) → a ≤ b → b ≤ c → Rose b c → Rose a c
 rose-right a b c le le' (inl h) = inl (omega (arith, h, le))
 rose-right a b c le le' (inr h) =
     elim (nat_lt a b) as (λ t. nat_lt a b ≡ t → Rose a c) [
       | true ↦ λ e. let low = lt_of a b e in inl (omega (arith, low, le'))
-      | false ↦ λ e. let high = ge_of a b e in let same : a ≡ b = omega (arith, high, le) in inr (same ∙ h)
+      | false ↦ λ e. let high = ge_of a b e in let same : a ≡ b = omega (arith, high, le) in inr (same ∙ h.0, h.1)
     ] refl
 
 pub loses-more : (hs : List Happening) (r t : Type 0) → (r → t) → Each (LosesOnly r) hs → Each (LosesOnly t) hs
@@ -74,7 +68,7 @@ loses-more (Did s ∷ hs) r t f all = ((λ l. f (all.0 l)), loses-more hs r t f 
 -- one step
 
 step-accepted : (ms : List Event) (s : JournalStep) → accepted (and_step ms s) ≡ accepted_by s
-step-accepted [] s = append-nil (accepted_by s)
+step-accepted [] s = append_nil (accepted_by s)
 step-accepted (m ∷ ms) s = step-accepted ms s
 
 step-high : (floor : ℕ) (ms : List Event) (s : JournalStep) → Each (IsAbove floor) ms → Each (IsHigh floor) (and_step ms s)
@@ -194,7 +188,7 @@ way-then q a b c got more r1 l1 r2 l2 x y = record {
 
 pub trip-none : (q : Asking) (a : Stands) → Trip q a a [] 0 0
 trip-none q a = record {
-  path = record { added = []; high = tt; of = tt; routed = tt; losses = tt; grown = sym (append-nil a.past); runs = refl; floor = refl; gives = refl };
+  path = record { added = []; high = tt; of = tt; routed = tt; losses = tt; grown = sym (append_nil a.past); runs = refl; floor = refl; gives = refl };
   refusals = refl;
   losses = refl;
   rises = omega arith;

@@ -1,9 +1,11 @@
 -- What a batch that was served in one piece gathers.
 use Rattle.std.proofs.Common.{◌≡◌, ℕ, ◌<◌, true, cond, List, [], ◌∷◌, ◌++◌, None, refl, sym, ap, ◌∙◌, subst, append_assoc, eq-eqb, ne_eqb, arith}
 use Rattle.std.specs.List.{list_all}
+use Rattle.ds_base.proofs.SmallFacts.{append_nil}
 use Rattle.ds_base.specs.Order.{key_lt}
 use Rattle.ds_base.proofs.KeyOrder.{below-after}
 use Rattle.ds_base.proofs.SmallFacts.{and_first, and_second}
+use Rattle.ds_rule.proofs.Eachs.{each-append, each-right}
 use Rattle.ds_kind.specs.Asks.{has_proper_span, is_proper}
 use Rattle.ds_kind.specs.Parts.{requests_of}
 use Rattle.ds_kind.specs.Reach.{Reach, At, Over, extent_of}
@@ -15,7 +17,8 @@ use Rattle.ds_kind.specs.declared.request.Request.{Request}
 use Rattle.ds_kind.specs.declared.request.Request.TheVariants.{Get, Scan, ReverseScan, Put, ConditionalPut, InitPut, Increment, Delete, DeleteRange, EndTxn, QueryIntent, ResolveIntent, ResolveIntentRange, AdminSplit, AdminTransferLease}
 use Rattle.ds_cell.specs.Ask.{Cells, Asked, Failed as Refuses, Gave}
 use Rattle.ds_cell.specs.Content.{AllAbove, Rises}
-use Rattle.ds_cell.specs.Replies.{body_of, join_bodies}
+use Rattle.ds_kind.specs.Bodies.{goes_down, join_bodies}
+use Rattle.ds_cell.specs.Replies.{body_of}
 use Rattle.ds_cell.specs.Requests.{ask_request}
 use Rattle.ds_cell.specs.Store.{WriteAt}
 use Rattle.ds_rule.specs.declared.answer.Answer.TheVariants.{Done, Failed, Refused, Lost}
@@ -23,15 +26,14 @@ use Rattle.ds_rule.specs.declared.journal.JournalStep.TheVariants.{Look, Send}
 use Rattle.ds_rule.specs.Asking.{Asking, Made, Gives, Fails, ask_all, made_by, and_then, and_before, at_of}
 use Rattle.ds_rule.specs.Cause.{IsIdle, IsWholeOf, LastServes}
 use Rattle.ds_rule.specs.Clauses.{Stands}
-use Rattle.ds_rule.specs.Gathered.{at_position, by_start, goes_down, IsBody, Joins, IsGathered, Gathered}
+use Rattle.ds_rule.specs.Gathered.{at_position, by_start, IsBody, Joins, IsGathered, Gathered}
 use Rattle.ds_rule.specs.Journal.{Happening, Moved, Did, Runs, Accepted, accepted, pairs}
 use Rattle.ds_rule.specs.Path.{Path}
 use Rattle.ds_rule.specs.Pieces.{Each, position_of}
-use Rattle.ds_rule.proofs.Failing.{runs-cut, each-right}
+use Rattle.ds_rule.proofs.Failing.{runs-cut}
 use Rattle.ds_rule.proofs.Gathering.{IsBelowPosition, at-append, at-none, join-nothing}
-use Rattle.ds_rule.proofs.Routes.{append-nil}
 use Rattle.ds_rule.proofs.Service.{service}
-use Rattle.ds_rule.proofs.Trips.{accepted-append, each-append}
+use Rattle.ds_rule.proofs.Trips.{accepted-append}
 
 -- one reply for each request, of its kind and whole
 
@@ -161,7 +163,7 @@ whole-gathered q a b replies got path rise proper whole last =
     let same : pairs q.head q.items replies ≡ got =
     ap (λ h. pairs h q.items replies) (sym here.0)
     ∙ ap (λ is. pairs last.piece.head is replies) (sym here.1)
-    ∙ sym (append-nil (pairs last.piece.head last.piece.items replies))
+    ∙ sym (append_nil (pairs last.piece.head last.piece.items replies))
     ∙ ap (λ xs. xs ++ accepted step) (sym (idle-accepts last.before last.idle))
     ∙ sym (accepted-append last.before step)
     ∙ ap accepted (sym last.last)

@@ -1,8 +1,11 @@
 -- The law of a batch in one piece.
 use Rattle.std.proofs.Common.{◌≡◌, ℕ, ◌⊎◌, true, List, [], ◌∷◌, ◌++◌, map, Option, Some, None, inl, inr, refl, sym, ap, ◌∙◌, subst}
 use Rattle.std.specs.List.{list_all}
+use Rattle.ds_base.proofs.SmallFacts.{append_nil, none_some}
 use Rattle.ds_base.specs.declared.value.Stamp.{Stamp}
 use Rattle.ds_base.specs.declared.value.TxnNo.{TxnNo}
+use Rattle.ds_rule.proofs.Eachs.{each-append, each-left, each-right}
+use Rattle.ds_rule.proofs.ReadLaw.{each-read}
 use Rattle.ds_desc.specs.declared.desc.RangeDesc.{RangeDesc}
 use Rattle.ds_kind.specs.declared.batch.Batch.{Batch}
 use Rattle.ds_kind.specs.declared.batch.Head.{Head}
@@ -32,11 +35,9 @@ use Rattle.ds_rule.specs.StandsFor.{StandsFor, Ready}
 use Rattle.ds_rule.specs.World.{World, start_of, end_of}
 use Rattle.ds_rule.proofs.Alike.{Alike, all-alike}
 use Rattle.ds_rule.proofs.Course.{OnWay, IsPlain, course}
-use Rattle.ds_rule.proofs.Failing.{status_of, Why, ByRecord, ByItem, why, reads-fail, nothing-stops, runs-cut, each-left, each-right}
-use Rattle.ds_rule.proofs.Kept.{each-append}
+use Rattle.ds_rule.proofs.Failing.{status_of, Why, ByRecord, ByItem, why, reads-fail, nothing-stops, runs-cut}
 use Rattle.ds_rule.proofs.Own.{never-of-record}
 use Rattle.ds_rule.proofs.Quiet.{quiet-made, idle-stands}
-use Rattle.ds_rule.proofs.Routes.{append-nil}
 use Rattle.ds_rule.proofs.Service.{service, held}
 use Rattle.ds_rule.proofs.Truth.{IsRead, reply_of, all-read, finished-nothing}
 use Rattle.ds_rule.proofs.Writing.{plainly, range-both, alike-fails, Answers, writes-answer}
@@ -79,19 +80,12 @@ held-back a b p batch q o got single path quiet idle ready answered =
 
 -- the last step, with the world before it
 
-each-read : (items : List Item) → Each IsProperRead items → Each IsRead items
-each-read [] all = tt
-each-read (i ∷ is) all = (all.0.read, each-read is all.1)
-
-no-failure : (f : Failure) → None ≡ Some f → ⊥
-no-failure f h = cc
-
 pieces-read : (q : Asking) (piece : Piece) → piece.items ≡ q.items → Each IsProperRead q.items → Each IsRead piece.items
 pieces-read q piece items reads = subst (Each IsRead) (sym items) (each-read q.items reads)
 
 -- the record of number 0 is none
 free : (q : Asking) (w : World) (p : Store) (n : ℕ) (piece : Piece) (f : Failure) → q.head.txn ≡ None → piece.head ≡ q.head → StandsFor w p → status_of w piece ≡ Some f → ⊥
-free q w p n piece f single head st is = no-failure f (sym (nothing-stops w piece st.named (ap txn_of head ∙ ap txn_number single)) ∙ is)
+free q w p n piece f single head st is = none_some f (sym (nothing-stops w piece st.named (ap txn_of head ∙ ap txn_number single)) ∙ is)
 
 -- a piece failed as the store fails
 failing : (q : Asking) (w : World) (p : Store) (n : ℕ) (piece : Piece) (f : Failure) → q.head.txn ≡ None → piece.head ≡ q.head → piece.items ≡ q.items → MayAct p q → StandsFor w p → Failed f ≡ deliver_answer w n piece → ask_all q.head q.items p.cells ≡ Fails f
@@ -176,7 +170,7 @@ reads-answer q a b p batch n piece rs reads ready at =
     let range : rs ≡ map (reply_of q.head sv.range.cells) q.items =
     sym (gives-replies sv.range.cells sv.cells sv.writes _ rs
     (sym (ap (λ z. ask_all z piece.items sv.range.cells) at.head ∙ ap (λ z. ask_all q.head z sv.range.cells) at.items ∙ all-read q.head q.items sv.range.cells read) ∙ sv.gives)) in
-    let plain : Each (IsPlain q.head p) (pairs piece.head piece.items rs) = subst (Each (IsPlain q.head p)) (append-nil (pairs piece.head piece.items rs)) end.answers in
+    let plain : Each (IsPlain q.head p) (pairs piece.head piece.items rs) = subst (Each (IsPlain q.head p)) (append_nil (pairs piece.head piece.items rs)) end.answers in
     let here : Each (IsPlain q.head p) (pairs q.head q.items (map (reply_of q.head sv.range.cells) q.items)) =
     subst (λ z. Each (IsPlain q.head p) (pairs q.head q.items z)) range
     (subst (λ z. Each (IsPlain q.head p) (pairs q.head z rs)) at.items

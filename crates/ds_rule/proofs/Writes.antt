@@ -3,7 +3,7 @@ use Rattle.std.proofs.Common.{◌≡◌, ℕ, Bool, true, false, cond, ◌&&◌,
 use Rattle.ds_base.specs.Order.{key_lt, key_le, holds, after}
 use Rattle.ds_base.specs.Ordered.{between}
 use Rattle.ds_base.specs.declared.value.Value.{Value}
-use Rattle.ds_base.proofs.SmallFacts.{and_first, and_second}
+use Rattle.ds_base.proofs.SmallFacts.{and_both, and_first, and_second}
 use Rattle.ds_base.proofs.OrderedFacts.{le_trans, lt_le_trans}
 use Rattle.ds_kind.specs.Reach.{Reach, At as Point, Over, extent_of}
 use Rattle.ds_kind.specs.Request.{reach_of, span_of}
@@ -72,13 +72,9 @@ puts_in_reach d (Over s e) cells cs vs h = puts_in d s e (between key_of s e cel
 pub puts_in_span : (r : Request) (at : At) (cells : Cells) (cs : List (List ℕ × Bit)) (vs : Puts) → ask_request r at cells ≡ Gave cs vs → AllIn (span_of r).start (span_of r).end vs
 puts_in_span r at cells cs vs h = puts_in_reach (deed_of r at) (reach_of r) cells cs vs h
 
-both : (a b : Bool) → a ≡ true → b ≡ true → (a && b) ≡ true
-both true b p q = q
-both false b p q = p
-
 -- the range holds the keys of an item's span that it holds
 pub held_key : (r : Range) (i : Item) (k : List ℕ) → holds_item r i ≡ true → holds (span_of i.request).start (span_of i.request).end k ≡ true → holds_key k r ≡ true
 held_key r i k h g =
-    both (key_le (start_of r) k) (key_lt k (end_of r))
+    and_both (key_le (start_of r) k) (key_lt k (end_of r))
     (le_trans (start_of r) (span_of i.request).start k (and_first _ _ h) (and_first _ _ g))
     (lt_le_trans k (span_of i.request).end (end_of r) (and_second (key_le (span_of i.request).start k) _ g) (and_second (key_le (start_of r) (span_of i.request).start) _ h))

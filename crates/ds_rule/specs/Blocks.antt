@@ -1,5 +1,6 @@
 -- The block of a batch: its steps, and what happens beside them.
-use Rattle.std.specs.Prelude.{◌≡◌, ℕ, ◌+◌, List, [], ◌∷◌, map, filter, nat_le}
+use Rattle.std.specs.Prelude.{◌≡◌, ℕ, ◌+◌, true, List, [], ◌∷◌, map, filter, nat_le}
+use Rattle.ds_desc.specs.Contains.{lies_ahead}
 use Rattle.ds_desc.specs.declared.meta.Looked.TheVariants as Looked
 use Rattle.ds_rule.specs.declared.answer.Answer.TheVariants.{Done, Failed, Refused, Lost}
 use Rattle.ds_rule.specs.declared.event.Event.{Event}
@@ -24,9 +25,10 @@ abbrev pub all_moved : World → List Timed → World
 all_moved w [] = w
 all_moved w (t ∷ ts) = all_moved (moved w t.event) ts
 
--- the step is answered as the world answers, and this is the world afterwards; that a step is lost isn't built yet
+-- the step is answered as the world answers, and this is the world afterwards; a lookup is of a key with some key of the
+-- key space ahead of it in its direction; that a step is lost isn't built yet
 abbrev pub Answers : World → JournalStep → World → Type 0
-Answers w (Look k d (Looked.Rows infos)) v = (infos ≡ look_rows w k d) × (v ≡ look_world w k d)
+Answers w (Look k d (Looked.Rows infos)) v = (infos ≡ look_rows w k d) × (v ≡ look_world w k d) × (lies_ahead d k ≡ true)
 Answers w (Look k d Looked.Lost) v = ⊥
 Answers w (Send n p (Done rs)) v = (Done rs ≡ deliver_answer w n p) × (v ≡ deliver_world w n p)
 Answers w (Send n p (Failed f)) v = (Failed f ≡ deliver_answer w n p) × (v ≡ deliver_world w n p)

@@ -1,18 +1,16 @@
 -- Why a batch was answered as it was: what its steps show.
 use Rattle.std.specs.Prelude.{◌≡◌, ℕ, ◌+◌, ◌≤◌, ◌⊎◌, Bool, true, false, List, [], ◌∷◌, ◌++◌, refl}
-use Rattle.ds_base.specs.Order.{Extent, max_key, min_key}
 use Rattle.ds_base.specs.declared.value.Dir.TheVariants.{Forward}
 use Rattle.ds_desc.specs.Contains.{contains}
 use Rattle.ds_desc.specs.declared.desc.Info.{Info}
 use Rattle.ds_desc.specs.declared.desc.RangeDesc.{RangeDesc}
 use Rattle.ds_desc.specs.declared.meta.Looked.TheVariants as Looked
-use Rattle.ds_kind.specs.Request.{span_of}
+use Rattle.ds_kind.specs.WholeSpan.{whole_span}
 use Rattle.ds_kind.specs.declared.batch.Item.{Item}
 use Rattle.ds_kind.specs.declared.batch.Piece.{Piece}
 use Rattle.ds_kind.specs.declared.reply.Failure.{Failure}
 use Rattle.ds_kind.specs.declared.reply.Failure.TheVariants as Failure
 use Rattle.ds_kind.specs.declared.reply.Reply.{Reply}
-use Rattle.ds_kind.specs.declared.request.Request.TheVariants.{Get, Scan}
 use Rattle.ds_rule.specs.declared.answer.Answer.TheVariants.{Done, Failed, Refused, Lost}
 use Rattle.ds_rule.specs.declared.answer.Outcome.{Outcome}
 use Rattle.ds_rule.specs.declared.answer.Outcome.TheVariants as Outcome
@@ -79,15 +77,6 @@ pub record LastLost (hs : List Happening) : Type 0 where
   pub last : hs ≡ before ++ Did (Send node piece Lost) ∷ []
 
 -- a batch in one range
-
-abbrev pub widened : Extent → List Item → Extent
-widened s [] = s
-widened s (i ∷ is) = widened (record { start = min_key s.start (span_of i.request).start; end = max_key s.end (span_of i.request).end }) is
-
--- the least span that holds the spans of all requests
-abbrev pub whole_span : List Item → Extent
-whole_span [] = record { start = []; end = [] }
-whole_span (i ∷ is) = widened (span_of i.request) is
 
 -- the first row of a lookup of the batch's first key holds the batch's span, or does not
 abbrev pub first_holds : List Item → Bool → List Info → Type 0
@@ -177,10 +166,6 @@ WholeCauseOf budget q hs Outcome.TxnAborted = IsHeldBack q hs × LastFails Failu
 WholeCauseOf budget q hs (Outcome.Ambiguous lost) = IsHeldBack q hs × (LastFails Failure.Committed hs ⊎ LastLost hs)
 WholeCauseOf budget q hs (Outcome.RetryExhausted refused lost) = IsHeldBack q hs × UsedUp budget refused lost hs
 WholeCauseOf budget q hs Outcome.OutOfMemory = Unit {0}
-
--- a get of b beside a scan of [a, c) spans [a, c)
-the_wider_span : whole_span (record { pos = 0; seq = record { 0 = 0 }; request = Get (record { key = 98 ∷ [] }) } ∷ record { pos = 1; seq = record { 0 = 0 }; request = Scan (record { start = 97 ∷ []; end = 99 ∷ [] }) } ∷ []) ≡ record { start = 97 ∷ []; end = 99 ∷ [] }
-the_wider_span = refl
 
 a_point_is_not_wide : holds_span (record { start = 97 ∷ []; end = 98 ∷ [] }) (record { start = 97 ∷ []; end = 99 ∷ [] }) ≡ false
 a_point_is_not_wide = refl

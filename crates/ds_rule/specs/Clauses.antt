@@ -3,7 +3,7 @@ use Rattle.std.specs.Prelude.{◌≡◌, ℕ, ◌<◌, ◌≤◌, ◌%◌, Bool,
 use Rattle.std.specs.declared.alloc.AllocError.{AllocError}
 use Rattle.ds_base.specs.Order.{key_lt, bound}
 use Rattle.ds_base.specs.declared.value.Dir.{Dir}
-use Rattle.ds_desc.specs.Counts.{Rose}
+use Rattle.ds_base.specs.Counts.{Rose}
 use Rattle.ds_desc.specs.declared.meta.Looked.{Looked}
 use Rattle.ds_desc.specs.declared.meta.Looked.TheVariants as Looked
 use Rattle.ds_kind.specs.declared.batch.Piece.{Piece}

@@ -1,13 +1,13 @@
 -- How replies are made of what the pieces were answered.
-use Rattle.std.specs.Prelude.{◌≡◌, ℕ, Bool, true, false, List, [], ◌∷◌, Option, None, ◌==◌, filter, if◌then◌else◌, refl}
+use Rattle.std.specs.Prelude.{◌≡◌, ℕ, Bool, true, List, [], ◌∷◌, Option, None}
 use Rattle.ds_base.specs.Order.{key_lt}
-use Rattle.ds_kind.specs.Flags.{flags_of}
-use Rattle.ds_kind.specs.Request.{cut_to, kind_of, span_of}
+use Rattle.ds_kind.specs.Bodies.{put_in_order, in_order, stands_at, those_at, goes_down, join_bodies}
+use Rattle.ds_kind.specs.Request.{cut_to, span_of}
 use Rattle.ds_kind.specs.declared.batch.Item.{Item}
 use Rattle.ds_kind.specs.declared.reply.Reply.{Reply}
 use Rattle.ds_kind.specs.declared.reply.Body.{Body}
 use Rattle.ds_kind.specs.declared.request.Request.{Request}
-use Rattle.ds_cell.specs.Replies.{Bits, body_of, join_bodies}
+use Rattle.ds_cell.specs.Replies.{Bits, body_of}
 use Rattle.ds_rule.specs.Journal.{Accepted}
 
 -- where an accepted item begins
@@ -15,23 +15,18 @@ abbrev pub begins_at : Accepted → List ℕ
 begins_at a = (span_of a.item.request).start
 
 abbrev pub put_by_start : Accepted → List Accepted → List Accepted
-put_by_start a [] = a ∷ []
-put_by_start a (b ∷ bs) = if key_lt (begins_at b) (begins_at a) then b ∷ put_by_start a bs else a ∷ b ∷ bs
+put_by_start = put_in_order begins_at
 
 -- in key order, whatever the order of arrival
 abbrev pub by_start : List Accepted → List Accepted
-by_start [] = []
-by_start (a ∷ more) = put_by_start a (by_start more)
+by_start = in_order begins_at
 
 abbrev pub is_at : ℕ → Accepted → Bool
-is_at n a = a.item.pos == n
+is_at = stands_at (λ a. a.item.pos)
 
 -- those of the request at a position
 abbrev pub at_position : ℕ → List Accepted → List Accepted
-at_position n got = filter (is_at n) got
-
-abbrev pub goes_down : Request → Bool
-goes_down r = (flags_of (kind_of r)).reverse
+at_position = those_at (λ a. a.item.pos)
 
 -- a body that a reply to the request may have
 pub record IsBody (r : Request) (b : Body) : Type 0 where

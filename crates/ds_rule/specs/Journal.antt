@@ -1,5 +1,6 @@
 -- What happened, one after another: moves of the world, and steps of a sender.
-use Rattle.std.specs.Prelude.{◌≡◌, ℕ, ◌+◌, ◌⊎◌, List, [], ◌∷◌, ◌++◌}
+use Rattle.std.specs.Prelude.{◌≡◌, ℕ, ◌+◌, ◌⊎◌, true, List, [], ◌∷◌, ◌++◌}
+use Rattle.ds_desc.specs.Contains.{lies_ahead}
 use Rattle.ds_desc.specs.declared.meta.Looked.{Looked}
 use Rattle.ds_desc.specs.declared.meta.Looked.TheVariants as Looked
 use Rattle.ds_kind.specs.declared.batch.Item.{Item}
@@ -19,10 +20,11 @@ pub data Happening : Type 0 where
   Moved : Event → Happening
   Did : JournalStep → Happening
 
--- the world may answer the step so, and be so afterwards; of a lost send nobody knows whether it was delivered
+-- the world may answer the step so, and be so afterwards; a lookup is of a key with some key of the key space ahead of it
+-- in its direction, and of a lost send nobody knows whether it was delivered
 abbrev pub Does : World → JournalStep → World → Type 0
-Does w (Look k d (Looked.Rows infos)) v = (infos ≡ look_rows w k d) × (v ≡ look_world w k d)
-Does w (Look k d Looked.Lost) v = v ≡ w
+Does w (Look k d (Looked.Rows infos)) v = (infos ≡ look_rows w k d) × (v ≡ look_world w k d) × (lies_ahead d k ≡ true)
+Does w (Look k d Looked.Lost) v = (v ≡ w) × (lies_ahead d k ≡ true)
 Does w (Send n p (Done rs)) v = (Done rs ≡ deliver_answer w n p) × (v ≡ deliver_world w n p)
 Does w (Send n p (Failed f)) v = (Failed f ≡ deliver_answer w n p) × (v ≡ deliver_world w n p)
 Does w (Send n p (Refused r)) v = (Refused r ≡ deliver_answer w n p) × (v ≡ deliver_world w n p)

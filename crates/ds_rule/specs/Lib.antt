@@ -7,11 +7,13 @@ pub mod Close
 pub mod Deliver
 pub mod Gathered
 pub mod Journal
+pub mod Keeping
 pub mod Law
 pub mod Moves
 pub mod Path
 pub mod Pieces
 pub mod Plain
+pub mod Shifts
 pub mod StandsFor
 pub mod Steady
 pub mod World

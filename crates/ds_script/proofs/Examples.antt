@@ -123,7 +123,7 @@ its_steps_play : BatchPlays (played written) (batch_at 20 (get key_a ∷ [])) no
 its_steps_play = record {
   asked = asked_at 20 (get key_a ∷ []);
   asks = refl;
-  plays = (written, tt, (refl, refl), (written, a_get_is_a_piece_of_its_batch (alone_at 20), (refl, refl), refl));
+  plays = (written, tt, (refl, refl, refl), (written, a_get_is_a_piece_of_its_batch (alone_at 20), (refl, refl), refl));
 }
 
 a_get_after_a_write_has_a_legal_journal : LegalJournal script (entry 7 ∷ [])

@@ -58,9 +58,13 @@ read_from n s (l ∷ ls) =
     else (if is_blank l then read_from (n + 1) s ls
     else and_then (at n (next n l s)) (λ p. and_then (read_from (n + 1) p.1 ls) (λ rest. Ok (numbered n p.0 ∷ rest))))
 
+-- how many bytes a script may have: 4 MiB
+abbrev pub most_bytes : ℕ
+most_bytes = 4194304
+
 -- the script that the bytes are, or its first fault
 unfoldable pub script_of : List ℕ → Result (List Numbered) Fault
 script_of bytes =
-    if nat_lt 4194304 (length bytes) then fault 0 TooLong
+    if nat_lt most_bytes (length bytes) then fault 0 TooLong
     else (if says_nothing bytes then fault 1 Order
     else read_from 1 start (lines_of bytes))

@@ -4,26 +4,19 @@
 //! and `Range`; [`read_script`] reads a whole script and tells the others too.
 #![tactic(auto)]
 
-pub mod accepted;
-pub mod event;
-pub mod every;
-pub mod fault;
-pub mod form;
-pub mod happening;
-#[cfg(test)]
-mod limit_tests;
-pub mod limits;
-pub mod line;
-#[cfg(test)]
-mod line_tests;
-pub mod read;
-pub mod request;
-pub mod rules;
-pub mod script;
-#[cfg(test)]
-mod script_tests;
-pub mod split;
-pub mod state;
+mod accepted;
+mod event;
+mod fault;
+mod form;
+mod happening;
+mod limits;
+mod line;
+mod read;
+mod request;
+mod rules;
+mod script;
+mod split;
+mod state;
 
 pub use accepted::{Script, Settings};
 pub use ds_fields::{FaultKind, LineFault};

@@ -3,7 +3,6 @@ ghost use Rattle.std.specs.Prelude.{◌≡◌};
 ghost use Rattle.std.specs.List.{list_all};
 ghost use Rattle.ds_script.specs.Limits.{key_fits, span_fits, point_fits, stamp_fits, count_fits, node_fits, value_fits, if_some, request_fits, write_fits, lease_fits, move_fits, stale_fits, event_fits, timed_fits, pick_fits, range_fits, rise_above, rise, cluster_fits, batch_fits, block_fits, line_fits};
 
-use crate::every::{Test, every};
 use crate::line::Line;
 use ds_base::{Key, Stamp, Value};
 use ds_desc::Nodes;
@@ -125,7 +124,10 @@ fn lease_fits(nodes: u8, key: &Key, node: u8) -> bool
 fn nodes_fit(nodes: u8, replicas: &Nodes) -> bool
     ensures { result ≡ list_all (node_fits nodes) replicas.now }
 {
-    every(&NodeFits { nodes }, replicas.as_slice())
+    replicas
+        .as_slice()
+        .iter()
+        .all(|node| node_fits(nodes, *node))
 }
 
 fn move_fits(nodes: u8, key: &Key, replicas: &Nodes) -> bool
@@ -162,79 +164,46 @@ fn event_fits(nodes: u8, event: &Event) -> bool
     }
 }
 
-#[derive(Drop)]
-struct NodeFits {
-    nodes: u8,
+fn timed_fits(nodes: u8, timed: &Timed) -> bool
+    ensures { result ≡ timed_fits nodes timed.now }
+{
+    count_fits(timed.at) && event_fits(nodes, &timed.event)
 }
 
-impl Test for NodeFits {
-    type Item = u8;
-
-    ghost passes = { λ t n. node_fits t.nodes n };
-
-    fn passes(&self, item: &u8) -> bool {
-        node_fits(self.nodes, *item)
-    }
+fn pick_fits(pick: u32) -> bool
+    ensures { result ≡ pick_fits pick }
+{
+    pick <= 1_000_000
 }
 
-#[derive(Drop)]
-struct RequestFits {
-    nodes: u8,
+fn range_fits(nodes: u8, range: &ClusterRange) -> bool
+    ensures { result ≡ range_fits nodes range.now }
+{
+    point_fits(&range.start) && nodes_fit(nodes, &range.nodes) && range.nodes.contains(range.lease)
 }
 
-impl Test for RequestFits {
-    type Item = Request;
-
-    ghost passes = { λ t r. request_fits t.nodes r };
-
-    fn passes(&self, item: &Request) -> bool {
-        request_fits(self.nodes, item)
-    }
+fn ranges_fit(nodes: u8, ranges: &[ClusterRange]) -> bool
+    ensures { result ≡ list_all (range_fits nodes) ranges.now }
+{
+    ranges.iter().all(|range| range_fits(nodes, range))
 }
 
-#[derive(Drop)]
-struct TimedFits {
-    nodes: u8,
+fn requests_fit(nodes: u8, requests: &[Request]) -> bool
+    ensures { result ≡ list_all (request_fits nodes) requests.now }
+{
+    requests.iter().all(|request| request_fits(nodes, request))
 }
 
-impl Test for TimedFits {
-    type Item = Timed;
-
-    ghost passes = { λ t e. timed_fits t.nodes e };
-
-    fn passes(&self, item: &Timed) -> bool {
-        count_fits(item.at) && event_fits(self.nodes, &item.event)
-    }
+fn events_fit(nodes: u8, events: &[Timed]) -> bool
+    ensures { result ≡ list_all (timed_fits nodes) events.now }
+{
+    events.iter().all(|timed| timed_fits(nodes, timed))
 }
 
-#[derive(Drop)]
-struct PickFits;
-
-impl Test for PickFits {
-    type Item = u32;
-
-    ghost passes = { λ _ p. pick_fits p };
-
-    fn passes(&self, item: &u32) -> bool {
-        *item <= 1_000_000
-    }
-}
-
-#[derive(Drop)]
-struct RangeFits {
-    nodes: u8,
-}
-
-impl Test for RangeFits {
-    type Item = ClusterRange;
-
-    ghost passes = { λ t r. range_fits t.nodes r };
-
-    fn passes(&self, item: &ClusterRange) -> bool {
-        point_fits(&item.start)
-            && nodes_fit(self.nodes, &item.nodes)
-            && item.nodes.contains(item.lease)
-    }
+fn picks_fit(picks: &[u32]) -> bool
+    ensures { result ≡ list_all pick_fits picks.now }
+{
+    picks.iter().all(|pick| pick_fits(*pick))
 }
 
 /// Whether each start is above the one before it, the first above `start`.
@@ -270,7 +239,7 @@ fn cluster_fits(cluster: &Cluster) -> bool
         && nodes <= 64
         && 1 <= ranges.len()
         && ranges.len() <= 1024
-        && every(&RangeFits { nodes }, ranges)
+        && ranges_fit(nodes, ranges)
         && rise(ranges)
 }
 
@@ -280,16 +249,16 @@ fn batch_fits(nodes: u8, batch: &Batch) -> bool
     stamp_fits_if_some(batch.at)
         && count_fits_if_some(batch.limit)
         && batch.requests.len() <= 1000
-        && every(&RequestFits { nodes }, batch.requests.as_slice())
+        && requests_fit(nodes, batch.requests.as_slice())
 }
 
 fn block_fits(nodes: u8, block: &Block) -> bool
     ensures { result ≡ block_fits nodes block.now }
 {
     block.events.len() <= 1000
-        && every(&TimedFits { nodes }, block.events.as_slice())
+        && events_fit(nodes, block.events.as_slice())
         && block.picks.len() <= 1000
-        && every(&PickFits, block.picks.as_slice())
+        && picks_fit(block.picks.as_slice())
 }
 
 /// Whether everything on the line is within its limits.

@@ -4,7 +4,6 @@ ghost use Rattle.std.specs.List.{list_all};
 ghost use Rattle.ds_fields.specs.Fault.{Gives};
 ghost use Rattle.ds_script.specs.Rules.{leads, reads_only, may_stand_beside, batch_belongs, event_belongs, never_fall, block_belongs, belongs, number_of, lost_after, claims, copies_after, floor, is_above, high_enough, may_begin, turn};
 
-use crate::every::{Test, every};
 use crate::line::Line;
 use crate::state::{CopySteps, OpenTxn, State, Step};
 use ds_base::{Copies, Stamp};
@@ -33,20 +32,18 @@ fn reads_only(kind: KindName) -> bool
     }
 }
 
-#[derive(Drop)]
-struct StandsBeside {
-    txn: Stamp,
-    at: Stamp,
+fn may_stand_beside(txn: Stamp, at: Stamp, request: &Request) -> bool
+    ensures { result ≡ may_stand_beside txn.0 at.0 request.now }
+{
+    !request.flags().txn || (reads_only(request.kind()) && at.0 < txn.0)
 }
 
-impl Test for StandsBeside {
-    type Item = Request;
-
-    ghost passes = { λ t r. may_stand_beside t.txn.0 t.at.0 r };
-
-    fn passes(&self, item: &Request) -> bool {
-        !item.flags().txn || (reads_only(item.kind()) && self.at.0 < self.txn.0)
-    }
+fn all_beside(txn: Stamp, at: Stamp, requests: &[Request]) -> bool
+    ensures { result ≡ list_all (may_stand_beside txn.0 at.0) requests.now }
+{
+    requests
+        .iter()
+        .all(|request| may_stand_beside(txn, at, request))
 }
 
 fn batch_belongs(state: &State, batch: &Batch) -> bool
@@ -56,32 +53,25 @@ fn batch_belongs(state: &State, batch: &Batch) -> bool
         (None, None) => false,
         (None, Some(_)) => true,
         (Some(_), None) => true,
-        (Some(open), Some(at)) => {
-            let test = StandsBeside {
-                txn: open.stamp,
-                at,
-            };
-            every(&test, batch.requests.as_slice())
-        }
+        (Some(open), Some(at)) => all_beside(open.stamp, at, batch.requests.as_slice()),
     }
 }
 
-#[derive(Drop)]
-struct EventBelongs<'a> {
-    state: &'a State,
+fn event_belongs(state: &State, event: &Event) -> bool
+    ensures { result ≡ event_belongs state.now.txn event.now }
+{
+    match event {
+        Event::Abort => state.txn.is_some(),
+        _ => true,
+    }
 }
 
-impl Test for EventBelongs<'_> {
-    type Item = Timed;
-
-    ghost passes = { λ t e. event_belongs t.state.now.txn e.event };
-
-    fn passes(&self, item: &Timed) -> bool {
-        match &item.event {
-            Event::Abort => self.state.txn.is_some(),
-            _ => true,
-        }
-    }
+fn events_belong(state: &State, events: &[Timed]) -> bool
+    ensures { result ≡ list_all (λ t. event_belongs state.now.txn t.event) events.now }
+{
+    events
+        .iter()
+        .all(|timed| event_belongs(state, &timed.event))
 }
 
 fn never_fall(events: &[Timed]) -> bool
@@ -101,7 +91,7 @@ fn block_belongs(state: &State, block: &Block) -> bool
     ensures { result ≡ block_belongs state.now.txn block.now }
 {
     let events = block.events.as_slice();
-    never_fall(events) && every(&EventBelongs { state }, events)
+    never_fall(events) && events_belong(state, events)
 }
 
 fn belongs(state: &State, line: &Line) -> bool
@@ -174,26 +164,23 @@ fn floor(state: &State, at: Option<Stamp>) -> u64
     }
 }
 
-#[derive(Drop)]
-struct IsAbove {
-    low: u64,
+fn is_above(low: u64, event: &Event) -> bool
+    ensures { result ≡ is_above low event.now }
+{
+    match event {
+        Event::Write {
+            key: _,
+            stamp,
+            value: _,
+        } => low < stamp.0,
+        _ => true,
+    }
 }
 
-impl Test for IsAbove {
-    type Item = Timed;
-
-    ghost passes = { λ t e. is_above t.low e.event };
-
-    fn passes(&self, item: &Timed) -> bool {
-        match &item.event {
-            Event::Write {
-                key: _,
-                stamp,
-                value: _,
-            } => self.low < stamp.0,
-            _ => true,
-        }
-    }
+fn all_above(low: u64, events: &[Timed]) -> bool
+    ensures { result ≡ list_all (λ t. is_above low t.event) events.now }
+{
+    events.iter().all(|timed| is_above(low, &timed.event))
 }
 
 fn high_enough(state: &State, line: &Line) -> bool
@@ -206,8 +193,7 @@ fn high_enough(state: &State, line: &Line) -> bool
             value: _,
         } => floor(state, None) < stamp.0,
         Line::Batch { batch, block } => {
-            let low = floor(state, batch.at);
-            every(&IsAbove { low }, block.events.as_slice())
+            all_above(floor(state, batch.at), block.events.as_slice())
         }
         _ => true,
     }

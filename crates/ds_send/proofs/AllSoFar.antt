@@ -1,9 +1,11 @@
 -- The requests of a batch so far.
-use Rattle.std.proofs.Common.{◌≡◌, ℕ, zero, suc, ◌+◌, ◌≤◌, ◌<◌, Bool, true, false, ◌&&◌, List, [], ◌∷◌, ◌++◌, length, take, get_or, Option, Some, None, inl, inr, refl, sym, ap, ◌∙◌, subst, append_assoc, arith}
+use Rattle.std.proofs.Common.{◌≡◌, ℕ, zero, suc, ◌+◌, ◌<◌, true, List, [], ◌∷◌, ◌++◌, length, take, get_or, None, inl, inr, refl, sym, ap, ◌∙◌, subst, append_assoc, arith}
 use Rattle.std.specs.List.{list_all}
 use Rattle.std.proofs.lemmas.List.{take_more}
 use Rattle.ds_base.specs.Order.{key_lt}
 use Rattle.ds_base.proofs.KeyOrder.{below-after}
+use Rattle.ds_base.proofs.SmallFacts.{and_first, and_second}
+use Rattle.ds_rule.proofs.Eachs.{each-append, each-left}
 use Rattle.ds_kind.specs.Asks.{has_proper_span, is_proper}
 use Rattle.ds_kind.specs.Reach.{Reach, At, Over, extent_of}
 use Rattle.ds_kind.specs.Parts.{requests_of}
@@ -18,15 +20,15 @@ use Rattle.ds_cell.specs.Content.{AllAbove, Rises}
 use Rattle.ds_rule.specs.declared.answer.Outcome.{Outcome}
 use Rattle.ds_rule.specs.declared.answer.Outcome.TheVariants as Outcome
 use Rattle.ds_rule.specs.Asking.{Asking}
-use Rattle.ds_rule.specs.Cause.{Trip, CauseOf, LastFails, UsedUp}
+use Rattle.ds_rule.specs.Cause.{Trip, CauseOf, LastFails}
 use Rattle.ds_rule.specs.Clauses.{Stands}
-use Rattle.ds_rule.specs.Gathered.{Gathered, IsGathered}
+use Rattle.ds_rule.specs.Gathered.{Gathered}
 use Rattle.ds_rule.specs.Journal.{Happening, Accepted}
 use Rattle.ds_rule.specs.Law.{Did}
 use Rattle.ds_rule.specs.Pieces.{Each, IsOneOf, position_of}
 use Rattle.ds_rule.proofs.Gathering.{IsAtPosition, IsBelowPosition, joins-at, gathers-last, gathered-on, gathered-last}
-use Rattle.ds_rule.proofs.Trips.{each-append, trip-none, trip-then, then-added}
-use Rattle.ds_send.specs.Sent.{AnsweredBy, StoppedBy, FailedOn, Spent, outcome_of}
+use Rattle.ds_rule.proofs.Trips.{trip-none, trip-then, then-added}
+use Rattle.ds_send.specs.Sent.{AnsweredBy, StoppedBy, FailedOn, outcome_of}
 use Rattle.ds_send.specs.declared.tries.Tries.{Tries}
 
 -- these items' requests are answered, and what was accepted is theirs
@@ -43,10 +45,6 @@ all-start q a budget now is =
     (record { got = []; trip = trip-none q a; gathered = tt; below = λ n h. tt; sum = omega arith })
 
 -- one more request
-
-each-left : {X : Type 0} (P : X → Type 0) (xs ys : List X) → Each P (xs ++ ys) → Each P xs
-each-left P [] ys all = tt
-each-left P (x ∷ xs) ys all = (all.0, each-left P xs ys all.1)
 
 each-last : {X : Type 0} (P : X → Type 0) (xs : List X) (x : X) → Each P (xs ++ x ∷ []) → P x
 each-last P [] x all = all.0
@@ -89,18 +87,10 @@ one-of-get [] k d low = absurd (omega (arith, low))
 one-of-get (x ∷ xs) zero d low = inl refl
 one-of-get (x ∷ xs) (suc k) d low = inr (one-of-get xs k d (omega (arith, low)))
 
-and-first : (a b : Bool) → (a && b) ≡ true → a ≡ true
-and-first true b h = refl
-and-first false b h = h
-
-and-second : (a b : Bool) → (a && b) ≡ true → b ≡ true
-and-second true b h = h
-and-second false b h = cc
-
 pub proper-one : (i : Item) (xs : List Item) → IsOneOf i xs → list_all has_proper_span (requests_of xs) ≡ true → has_proper_span i.request ≡ true
 proper-one i [] one h = absurd one
-proper-one i (x ∷ xs) (inl same) h = ap (λ z. has_proper_span z.request) same ∙ and-first (has_proper_span x.request) _ h
-proper-one i (x ∷ xs) (inr rest) h = proper-one i xs rest (and-second (has_proper_span x.request) _ h)
+proper-one i (x ∷ xs) (inl same) h = ap (λ z. has_proper_span z.request) same ∙ and_first (has_proper_span x.request) _ h
+proper-one i (x ∷ xs) (inr rest) h = proper-one i xs rest (and_second (has_proper_span x.request) _ h)
 
 -- how it ends
 

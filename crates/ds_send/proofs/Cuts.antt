@@ -1,21 +1,20 @@
 -- A part of one request is a piece of its batch.
-use Rattle.std.proofs.Common.{◌≡◌, ℕ, ◌<◌, ◌⊎◌, Bool, true, false, cond, ◌&&◌, ◌||◌, ◌==◌, List, [], ◌∷◌, ◌++◌, map, length, Option, Some, None, inl, inr, refl, sym, ap, ◌∙◌, subst, arith}
+use Rattle.std.proofs.Common.{◌≡◌, ℕ, Bool, true, false, cond, ◌&&◌, ◌||◌, List, [], ◌∷◌, ◌++◌, map, Some, inl, refl, sym, ap, arith}
 use Rattle.std.specs.List.{find, list_any}
 use Rattle.ds_base.specs.Order.{key_lt, key_le, after}
 use Rattle.ds_base.specs.declared.value.Dir.{Dir}
 use Rattle.ds_base.specs.declared.value.Dir.TheVariants.{Forward, Reverse}
 use Rattle.ds_base.proofs.KeyOrder.{below-after}
+use Rattle.ds_base.proofs.SmallFacts.{or_first, or_neither, or_second}
 use Rattle.ds_kind.specs.Asks.{is_end, is_reverse_scan}
 use Rattle.ds_kind.specs.Groups.{groups, groups_from}
-use Rattle.ds_kind.specs.Parts.{item_may_join, part_of, requests_of, dir_of}
+use Rattle.ds_kind.specs.Parts.{item_may_join, part_of, requests_of}
 use Rattle.ds_kind.specs.Request.{cut_to, span_of}
 use Rattle.ds_kind.specs.declared.batch.Item.{Item}
-use Rattle.ds_kind.specs.declared.batch.Part.{Part}
-use Rattle.ds_kind.specs.declared.batch.Piece.{Piece}
 use Rattle.ds_kind.specs.declared.request.Request.{Request}
 use Rattle.ds_kind.specs.declared.request.Request.TheVariants.{Get, Scan, ReverseScan, Put, ConditionalPut, InitPut, Increment, Delete, DeleteRange, EndTxn, QueryIntent, ResolveIntent, ResolveIntentRange, AdminSplit, AdminTransferLease}
 use Rattle.ds_rule.specs.Asking.{Asking}
-use Rattle.ds_rule.specs.Pieces.{Each, IsOneOf, IsCut, PieceOf, has_position, dir_of_part, dir_of_first, dir_for, unless_lone, is_lone_end, parts_apart}
+use Rattle.ds_rule.specs.Pieces.{Each, IsOneOf, IsCut, PieceOf, has_position, dir_of_part, dir_for, unless_lone, is_lone_end, parts_apart}
 use Rattle.ds_rule.proofs.Routes.{le_itself}
 use Rattle.ds_send.specs.Sent.{IsSendable}
 
@@ -70,29 +69,18 @@ is-cut items i m k one f s t =
 abbrev GoesForward : List Item → Type 0
 GoesForward items = list_any is_reverse_scan (requests_of items) ≡ false
 
-or-false : (a b : Bool) → a ≡ false → b ≡ false → (a || b) ≡ false
-or-false a b p q = ap (λ t. t || b) p ∙ q
-
-or-left : (a b : Bool) → (a || b) ≡ false → a ≡ false
-or-left true b h = h
-or-left false b h = refl
-
-or-right : (a b : Bool) → (a || b) ≡ false → b ≡ false
-or-right true b h = cc
-or-right false b h = h
-
 forward-push : (items : List Item) (i : Item) → GoesForward items → is_reverse_scan i.request ≡ false → GoesForward (items ++ i ∷ [])
-forward-push [] i h p = or-false (is_reverse_scan i.request) false p refl
-forward-push (x ∷ xs) i h p = or-false (is_reverse_scan x.request) _ (or-left _ _ h) (forward-push xs i (or-right (is_reverse_scan x.request) _ h) p)
+forward-push [] i h p = or_neither (is_reverse_scan i.request) false p refl
+forward-push (x ∷ xs) i h p = or_neither (is_reverse_scan x.request) _ (or_first _ _ h) (forward-push xs i (or_second (is_reverse_scan x.request) _ h) p)
 
 forward-groups : (last items : List Item) → GoesForward last → GoesForward items → Each GoesForward (groups_from (item_may_join true) last items)
 forward-groups last [] l h = (l, tt)
 forward-groups last (x ∷ xs) l h =
-    let first = or-left (is_reverse_scan x.request) _ h in
-    let rest = or-right (is_reverse_scan x.request) _ h in
+    let first = or_first (is_reverse_scan x.request) _ h in
+    let rest = or_second (is_reverse_scan x.request) _ h in
     elim (item_may_join true last x) as (λ t. Each GoesForward (cond t (groups_from (item_may_join true) (last ++ x ∷ []) xs) (last ∷ groups_from (item_may_join true) (x ∷ []) xs))) [
       | true ↦ forward-groups (last ++ x ∷ []) xs (forward-push last x l first) rest
-      | false ↦ (l, forward-groups (x ∷ []) xs (or-false (is_reverse_scan x.request) false first refl) rest)
+      | false ↦ (l, forward-groups (x ∷ []) xs (or_neither (is_reverse_scan x.request) false first refl) rest)
     ]
 
 found-forward : (n : ℕ) (gs : List (List Item)) → Each GoesForward gs → dir_of_part (find (has_position n) (map part_of gs)) ≡ Forward
@@ -107,7 +95,7 @@ parts-forward : (n : ℕ) (items : List Item) → GoesForward items → dir_of_p
 parts-forward n [] h = refl
 parts-forward n (x ∷ xs) h =
     found-forward n (groups (item_may_join true) (x ∷ xs))
-    (forward-groups (x ∷ []) xs (or-false (is_reverse_scan x.request) false (or-left _ _ h) refl) (or-right (is_reverse_scan x.request) _ h))
+    (forward-groups (x ∷ []) xs (or_neither (is_reverse_scan x.request) false (or_first _ _ h) refl) (or_second (is_reverse_scan x.request) _ h))
 
 either-forward : (t : Bool) (d : Dir) → d ≡ Forward → Forward ≡ unless_lone t d
 either-forward true d h = refl

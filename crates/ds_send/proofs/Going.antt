@@ -1,12 +1,9 @@
 -- The steps of one piece.
-use Rattle.std.proofs.Common.{◌≡◌, ℕ, ◌+◌, Bool, true, false, cond, not, ◌&&◌, List, [], ◌∷◌, ◌++◌, Some, None, refl, sym, ap, ◌∙◌, subst, slice_get, map, append_assoc}
-use Rattle.std.specs.Ordering.{is_gt, is_le}
-use Rattle.std.specs.declared.cmp.Ordering.{Ordering}
-use Rattle.std.specs.declared.cmp.Ordering.TheVariants.{Less, Equal, Greater}
+use Rattle.std.proofs.Common.{◌≡◌, ℕ, ◌+◌, true, false, cond, not, List, [], ◌∷◌, ◌++◌, Some, None, refl, sym, ap, ◌∙◌, subst, slice_get, map, append_assoc}
 use Rattle.ds_base.specs.Order.{Extent, key_lt, key_le, min_key, holds, after, bound, IsKey}
 use Rattle.ds_base.specs.declared.value.Dir.TheVariants.{Forward}
 use Rattle.ds_base.proofs.KeyOrder.{after-above, point-holds}
-use Rattle.ds_base.proofs.SmallFacts.{and_first, and_second}
+use Rattle.ds_base.proofs.SmallFacts.{and_both, and_first, and_second, not_greater}
 use Rattle.ds_base.proofs.OrderedFacts.{le_of_lt, le_of_not_lt, lt_le_trans}
 use Rattle.ds_desc.specs.declared.desc.Info.{Info}
 use Rattle.ds_desc.specs.declared.meta.Looked.TheVariants as Looked
@@ -52,13 +49,8 @@ min_within e r same =
       | false ↦ λ h. same
     ] refl
 
-not_gt : (o : Ordering) → is_gt o ≡ false → is_le o ≡ true
-not_gt Less h = refl
-not_gt Equal h = refl
-not_gt Greater h = sym h
-
 pub below_bound : (k e : List ℕ) → key_lt k e ≡ true → IsKey e → key_lt k bound ≡ true
-below_bound k e h key = lt_le_trans k e bound h (not_gt _ key.low)
+below_bound k e h key = lt_le_trans k e bound h (not_greater _ key.low)
 
 -- a piece is for the range of its route
 
@@ -69,9 +61,6 @@ min_in e r =
       | false ↦ λ h. le_of_not_lt r e h
     ] refl
 
-and_both : (a b : Bool) → a ≡ true → b ≡ true → (a && b) ≡ true
-and_both a b p q = ap (λ t. t && b) p ∙ q
-
 over-held : (m e : List ℕ) (s : Extent) → holds s.start s.end m ≡ true → holds_span s (record { start = m; end = min_key e s.end }) ≡ true
 over-held m e s h = and_both (key_le s.start m) _ (and_first (key_le s.start m) _ h) (min_in e s.end)
 
@@ -80,7 +69,7 @@ point-held : (k m e : List ℕ) (s : Extent) → key_le k m ≡ true → key_lt 
 point-held k m e s from below to h =
     let same : m ≡ k = point-holds k m (and_both (key_le k m) _ from (lt_le_trans m e (after k) below to)) in
     let here : holds s.start s.end k ≡ true = subst (λ z. holds s.start s.end z ≡ true) same h in
-    and_both (key_le s.start k) _ (and_first (key_le s.start k) _ here) (not_gt _ (after-above k s.end ∙ ap not (and_second (key_le s.start k) _ here)))
+    and_both (key_le s.start k) _ (and_first (key_le s.start k) _ here) (not_greater _ (after-above k s.end ∙ ap not (and_second (key_le s.start k) _ here)))
 
 cut-held : (m e : List ℕ) (s : Extent) (r : Request) → key_le (span_of r).start m ≡ true → key_lt m e ≡ true → key_le e (span_of r).end ≡ true → holds s.start s.end m ≡ true → holds_span s (span_of (cut_to m (min_key e s.end) r)) ≡ true
 cut-held m e s (Get a) from below to h = point-held a.key m e s from below to h

@@ -1,45 +1,20 @@
 -- What a batch's steps mean, as the sender's clauses say it.
-use Rattle.std.proofs.Common.{◌≡◌, ℕ, ◌+◌, ◌<◌, ◌≤◌, Bool, true, false, ◌&&◌, ◌||◌, List, [], ◌∷◌, ◌++◌, map, Option, Some, None, Result, Ok, Err, IfOk, is_some, is_none, refl, sym, ap, ◌∙◌, subst, arith}
-use Rattle.std.specs.List.{list_all, list_any}
+use Rattle.std.proofs.Common.{◌≡◌, ℕ, Bool, true, false, Option, Some, None, Result, Ok, Err, IfOk, is_some, is_none, sym, subst}
 use Rattle.std.specs.declared.alloc.AllocError.{AllocError}
-use Rattle.ds_base.specs.declared.value.Stamp.{Stamp}
-use Rattle.ds_kind.specs.Asks.{is_reverse_scan, has_proper_span}
-use Rattle.ds_kind.specs.Numbers.{numbers_from, next_number}
-use Rattle.ds_kind.specs.Parts.{items_from, requests_of}
+use Rattle.ds_base.proofs.SmallFacts.{and_first, and_second, some_of}
 use Rattle.ds_kind.specs.declared.batch.Batch.{Batch}
-use Rattle.ds_kind.specs.declared.batch.Item.{Item}
-use Rattle.ds_kind.specs.declared.request.Request.{Request}
-use Rattle.ds_kind.specs.declared.request.Request.TheVariants.{Get, Scan, ReverseScan, Put, ConditionalPut, InitPut, Increment, Delete, DeleteRange, EndTxn, QueryIntent, ResolveIntent, ResolveIntentRange, AdminSplit, AdminTransferLease}
 use Rattle.ds_legal.specs.Legal.{IsLegal}
-use Rattle.ds_cell.specs.Content.{AllAbove, Rises}
-use Rattle.ds_cell.specs.Store.{Asker, Store}
+use Rattle.ds_cell.specs.Store.{Asker}
 use Rattle.ds_rule.specs.declared.answer.Outcome.{Outcome}
 use Rattle.ds_rule.specs.Asking.{Asking, asking}
 use Rattle.ds_rule.specs.Clauses.{Stands}
-use Rattle.ds_rule.specs.Law.{Did, DidWhole, IsGiven, IsPlainFor, IsReading, IsSingle, LeadsTo}
-use Rattle.ds_rule.specs.Pieces.{position_of}
+use Rattle.ds_rule.specs.Law.{Did, IsGiven, IsReading, IsSingle}
 use Rattle.ds_rule.proofs.ReadLaw.{read_law}
 use Rattle.ds_rule.proofs.WholeLaw.{whole_law}
-use Rattle.ds_send.specs.Batch.{is_built, is_built_request, is_plain_read, is_value_write}
+use Rattle.ds_send.specs.Batch.{is_built}
 use Rattle.ds_send.specs.Sent.{DidOnce, IsSendable, IsWholeSendable, Plain, PlainIf, is_whole}
 use Rattle.ds_send.proofs.WholeLegal.{sendable, whole-sendable}
-use Rattle.ds_send.proofs.Readings.{as-items}
-
-and-first : (a b : Bool) → (a && b) ≡ true → a ≡ true
-and-first true b h = refl
-and-first false b h = h
-
-and-second : (a b : Bool) → (a && b) ≡ true → b ≡ true
-and-second true b h = h
-and-second false b h = cc
-
-some-of : (o : Option Stamp) → is_some o ≡ true → (s : Stamp) × (o ≡ Some s)
-some-of None h = cc
-some-of (Some s) h = (s, refl)
-
-none-limit : (o : Option ℕ) → is_none o ≡ true → o ≡ None
-none-limit None h = refl
-none-limit (Some n) h = cc
+use Rattle.ds_send.proofs.Readings.{as-items, none-limit}
 
 -- which batches can be sent
 
@@ -51,8 +26,8 @@ each-sendable t b q legal built asks =
 pub single-sendable : (t : Option Asker) (b : Batch) (q : Asking) → IsLegal b → is_built b ≡ true → is_whole b ≡ true → asking t b ≡ Some q → IsWholeSendable q
 single-sendable t b q legal built whole asks =
     let as_ = as-items b.at t b q asks in
-    let s = some-of b.at (and-first (is_some b.at) _ whole) in
-    whole-sendable b q as_.last s.0 legal s.1 (and-second (is_none b.limit) _ built) as_.items
+    let s = some_of b.at (and_first (is_some b.at) _ whole) in
+    whole-sendable b q as_.last s.0 legal s.1 (and_second (is_none b.limit) _ built) as_.items
 
 -- what the steps mean
 
@@ -71,5 +46,5 @@ means batch o' q a b t r asks whole h =
 
 pub single : (b : Batch) → is_whole b ≡ true → is_built b ≡ true → IsSingle b
 single b whole built =
-    let s = some-of b.at (and-first (is_some b.at) _ whole) in
-    record { stamp = s.0; at = s.1; unlimited = none-limit b.limit (and-first (is_none b.limit) _ built) }
+    let s = some_of b.at (and_first (is_some b.at) _ whole) in
+    record { stamp = s.0; at = s.1; unlimited = none-limit b.limit (and_first (is_none b.limit) _ built) }

@@ -1,13 +1,13 @@
 -- A legal batch that isn't sent in one piece only reads.
-use Rattle.std.proofs.Common.{◌≡◌, ℕ, ◌+◌, ◌<◌, ◌≤◌, Bool, true, false, not, ◌&&◌, ◌||◌, List, [], ◌∷◌, ◌++◌, length, Option, Some, None, is_some, is_none, refl, sym, ap, ◌∙◌, subst, arith}
+use Rattle.std.proofs.Common.{◌≡◌, ℕ, ◌+◌, ◌<◌, true, false, ◌&&◌, List, [], ◌∷◌, length, Option, Some, None, is_some, is_none, refl, sym, ap, subst, arith}
 use Rattle.std.specs.List.{list_all}
+use Rattle.ds_base.proofs.SmallFacts.{and_both, and_first, and_second, append_nil}
 use Rattle.ds_base.specs.declared.value.Seq.{Seq}
 use Rattle.ds_base.specs.declared.value.Stamp.{Stamp}
 use Rattle.ds_kind.specs.Asks.{is_get_or_scan, has_proper_span}
 use Rattle.ds_kind.specs.Numbers.{numbers_from, next_number}
 use Rattle.ds_kind.specs.Parts.{items_from}
 use Rattle.ds_kind.specs.declared.batch.Batch.{Batch}
-use Rattle.ds_kind.specs.declared.batch.Item.{Item}
 use Rattle.ds_kind.specs.declared.illegal.Illegal.{Illegal}
 use Rattle.ds_kind.specs.declared.request.Request.{Request}
 use Rattle.ds_kind.specs.declared.request.Request.TheVariants.{Get, Scan, ReverseScan, Put, ConditionalPut, InitPut, Increment, Delete, DeleteRange, EndTxn, QueryIntent, ResolveIntent, ResolveIntentRange, AdminSplit, AdminTransferLease}
@@ -15,14 +15,13 @@ use Rattle.ds_legal.specs.Legal.{IsLegal}
 use Rattle.ds_cell.specs.Store.{Asker, Store}
 use Rattle.ds_rule.specs.declared.answer.Outcome.{Outcome}
 use Rattle.ds_rule.specs.declared.answer.Outcome.TheVariants as Outcome
-use Rattle.ds_rule.specs.Asking.{Asking, asking, asking_by, numbered}
+use Rattle.ds_rule.specs.Asking.{Asking, asking, asking_by}
 use Rattle.ds_rule.specs.Clauses.{Stands}
 use Rattle.ds_rule.specs.Law.{IsProperRead, IsReading, LeadsTo}
 use Rattle.ds_rule.specs.Pieces.{Each}
-use Rattle.ds_rule.specs.Plain.{counted_store, counted_txn}
+use Rattle.ds_rule.specs.Plain.{counted_store}
 use Rattle.ds_rule.specs.StandsFor.{StandsFor}
 use Rattle.ds_rule.proofs.ReadLaw.{like-counted, stands-like}
-use Rattle.ds_rule.proofs.Routes.{append-nil}
 use Rattle.ds_send.proofs.AllSoFar.{proper-some}
 use Rattle.ds_send.specs.Batch.{is_built, is_built_request, is_plain_read}
 use Rattle.ds_send.specs.Sent.{is_whole}
@@ -32,19 +31,11 @@ use Rattle.ds_send.specs.Sent.{is_whole}
 both-read : (r : Request) → is_get_or_scan r ≡ true → has_proper_span r ≡ true → (pos : ℕ) (s : Seq) → IsProperRead (record { pos = pos; seq = s; request = r })
 both-read r read proper pos s = record { read = read; some = proper-some r proper }
 
-and-first : (a b : Bool) → (a && b) ≡ true → a ≡ true
-and-first true b h = refl
-and-first false b h = h
-
-and-second : (a b : Bool) → (a && b) ≡ true → b ≡ true
-and-second true b h = h
-and-second false b h = cc
-
 pub reads-proper : (n last : ℕ) (rs : List Request) → list_all is_get_or_scan rs ≡ true → list_all has_proper_span rs ≡ true → Each IsProperRead (items_from n rs (numbers_from last rs))
 reads-proper n last [] read proper = tt
 reads-proper n last (r ∷ rs) read proper = (
-  both-read r (and-first (is_get_or_scan r) _ read) (and-first (has_proper_span r) _ proper) n _,
-  reads-proper (n + 1) (next_number last r) rs (and-second (is_get_or_scan r) _ read) (and-second (has_proper_span r) _ proper),
+  both-read r (and_first (is_get_or_scan r) _ read) (and_first (has_proper_span r) _ proper) n _,
+  reads-proper (n + 1) (next_number last r) rs (and_second (is_get_or_scan r) _ read) (and_second (has_proper_span r) _ proper),
 )
 
 long-items : (n last : ℕ) (rs : List Request) → length (items_from n rs (numbers_from last rs)) ≡ length rs
@@ -70,18 +61,15 @@ plain-reads (ResolveIntentRange a) h = cc
 plain-reads (AdminSplit a) h = cc
 plain-reads (AdminTransferLease a) h = cc
 
-and-both : (a b : Bool) → a ≡ true → b ≡ true → (a && b) ≡ true
-and-both a b p q = ap (λ t. t && b) p ∙ q
-
 pub all-plain : (rs : List Request) → list_all is_plain_read rs ≡ true → list_all is_get_or_scan rs ≡ true
 all-plain [] h = refl
-all-plain (r ∷ rs) h = and-both (is_get_or_scan r) _ (plain-reads r (and-first (is_plain_read r) _ h)) (all-plain rs (and-second (is_plain_read r) _ h))
+all-plain (r ∷ rs) h = and_both (is_get_or_scan r) _ (plain-reads r (and_first (is_plain_read r) _ h)) (all-plain rs (and_second (is_plain_read r) _ h))
 
 only-reads : (at : Option Stamp) (b : Batch) → b.at ≡ at → IsLegal b → list_all (is_built_request b.at) b.requests ≡ true → (is_some at && b.consistent) ≡ false → list_all is_get_or_scan b.requests ≡ true
 only-reads None b is legal built whole = all-plain b.requests (subst (λ at. list_all (is_built_request at) b.requests ≡ true) is built)
 only-reads (Some s) b is legal built whole = legal.inconsistent_reads whole
 
-none-limit : (o : Option ℕ) → is_none o ≡ true → o ≡ None
+pub none-limit : (o : Option ℕ) → is_none o ≡ true → o ≡ None
 none-limit None h = refl
 none-limit (Some n) h = cc
 
@@ -101,9 +89,9 @@ as-items None (Some t) b q h = record { last = t.last; items = ap (λ z. z.items
 pub reading : (t : Option Asker) (b : Batch) (q : Asking) → IsLegal b → is_built b ≡ true → is_whole b ≡ false → asking t b ≡ Some q → IsReading b q
 reading t b q legal built whole asks =
     let as_ = as-items b.at t b q asks in
-    let all = only-reads b.at b refl legal (and-second (is_none b.limit) _ built) whole in
+    let all = only-reads b.at b refl legal (and_second (is_none b.limit) _ built) whole in
     record {
-      unlimited = none-limit b.limit (and-first (is_none b.limit) _ built);
+      unlimited = none-limit b.limit (and_first (is_none b.limit) _ built);
       some = subst (λ xs. 0 < length xs) (sym as_.items) (let h = long-items 0 as_.last b.requests in let some = legal.some in omega (arith, h, some));
       reads = subst (Each IsProperRead) (sym as_.items) (reads-proper 0 as_.last b.requests all legal.spans);
     }
@@ -112,7 +100,7 @@ reading t b q legal built whole asks =
 pub led-illegal : (a : Stands) (p : Store) (b : Batch) (i : Illegal) → StandsFor a.world p → LeadsTo a a p b (Outcome.Illegal i)
 led-illegal a p b i st = record {
   added = [];
-  grown = sym (append-nil a.past);
+  grown = sym (append_nil a.past);
   next = counted_store b (Outcome.Illegal i) p;
   answered = refl;
   stands = stands-like a.world p _ (like-counted b.at b (Outcome.Illegal i) p.txn) st;

@@ -1,10 +1,9 @@
 -- The pieces of one request so far.
-use Rattle.std.proofs.Common.{◌≡◌, ℕ, ◌+◌, ◌≤◌, ◌||◌, Bool, true, false, cond, List, [], ◌∷◌, ◌++◌, Option, Some, None, inl, inr, refl, sym, ap, ◌∙◌, subst, append_assoc, arith}
-use Rattle.std.specs.List.{list_any, list_all}
-use Rattle.ds_base.specs.Order.{key_lt, key_le}
-use Rattle.ds_kind.specs.Asks.{is_reverse_scan, has_proper_span}
+use Rattle.std.proofs.Common.{◌≡◌, ℕ, ◌+◌, false, List, [], ◌∷◌, ◌++◌, Option, Some, None, inl, inr, refl, sym, ap, ◌∙◌, subst, append_assoc, arith}
+use Rattle.std.specs.List.{list_any}
+use Rattle.ds_base.proofs.SmallFacts.{append_nil, or_first, or_second}
+use Rattle.ds_kind.specs.Asks.{is_reverse_scan}
 use Rattle.ds_kind.specs.Parts.{requests_of}
-use Rattle.ds_kind.specs.Request.{span_of}
 use Rattle.ds_kind.specs.declared.batch.Item.{Item}
 use Rattle.ds_kind.specs.declared.reply.Body.{Body}
 use Rattle.ds_kind.specs.declared.reply.Body.TheVariants as Body
@@ -12,18 +11,17 @@ use Rattle.ds_kind.specs.declared.reply.Failure.{Failure}
 use Rattle.ds_kind.specs.declared.reply.Row.{Row}
 use Rattle.ds_kind.specs.declared.request.Request.{Request}
 use Rattle.ds_kind.specs.declared.request.Request.TheVariants.{Get, Scan, ReverseScan, Put, ConditionalPut, InitPut, Increment, Delete, DeleteRange, EndTxn, QueryIntent, ResolveIntent, ResolveIntentRange, AdminSplit, AdminTransferLease}
-use Rattle.ds_cell.specs.Replies.{join_bodies}
+use Rattle.ds_kind.specs.Bodies.{goes_down, join_bodies}
 use Rattle.ds_rule.specs.Asking.{Asking}
-use Rattle.ds_rule.specs.Cause.{Trip, LastFails}
+use Rattle.ds_rule.specs.Cause.{Trip}
 use Rattle.ds_rule.specs.Clauses.{Stands}
-use Rattle.ds_rule.specs.Gathered.{goes_down, IsBody}
+use Rattle.ds_rule.specs.Gathered.{IsBody}
 use Rattle.ds_rule.specs.Journal.{Accepted}
 use Rattle.ds_rule.specs.Pieces.{IsOneOf}
 use Rattle.ds_rule.proofs.Gathering.{Front, front-none, front-more, front-done, join_with}
-use Rattle.ds_rule.proofs.Routes.{append-nil}
 use Rattle.ds_rule.proofs.Trips.{trip-none, trip-then, then-added}
 use Rattle.ds_send.specs.Bodies.{join_forward, rows_in, keys_in}
-use Rattle.ds_send.specs.Sent.{On, FailedAt, FailedOn, Answered, AnsweredBy, Stopped, StoppedBy, Spent}
+use Rattle.ds_send.specs.Sent.{On, FailedAt, FailedOn, AnsweredBy, StoppedBy, Spent}
 use Rattle.ds_send.specs.declared.tries.Tries.{Tries}
 
 pub record SoFar (q : Asking) (a b : Stands) (i : Item) (s m : List ℕ) (old now : Tries) (body : Option Body) : Type 0 where
@@ -50,21 +48,21 @@ so-start q a i s t = record {
 
 rows-forward : (b c : Body) → (xs : List Row) → join_bodies false (Body.Rows xs) c ≡ Body.Rows (xs ++ rows_in c)
 rows-forward b (Body.Rows ys) xs = refl
-rows-forward b (Body.Got v) xs = ap Body.Rows (sym (append-nil xs))
-rows-forward b Body.Unit xs = ap Body.Rows (sym (append-nil xs))
-rows-forward b (Body.Number n) xs = ap Body.Rows (sym (append-nil xs))
-rows-forward b (Body.Gone ks) xs = ap Body.Rows (sym (append-nil xs))
-rows-forward b (Body.Ended t) xs = ap Body.Rows (sym (append-nil xs))
-rows-forward b (Body.Found t) xs = ap Body.Rows (sym (append-nil xs))
+rows-forward b (Body.Got v) xs = ap Body.Rows (sym (append_nil xs))
+rows-forward b Body.Unit xs = ap Body.Rows (sym (append_nil xs))
+rows-forward b (Body.Number n) xs = ap Body.Rows (sym (append_nil xs))
+rows-forward b (Body.Gone ks) xs = ap Body.Rows (sym (append_nil xs))
+rows-forward b (Body.Ended t) xs = ap Body.Rows (sym (append_nil xs))
+rows-forward b (Body.Found t) xs = ap Body.Rows (sym (append_nil xs))
 
 keys-forward : (c : Body) → (xs : List (List ℕ)) → join_bodies false (Body.Gone xs) c ≡ Body.Gone (xs ++ keys_in c)
 keys-forward (Body.Gone ys) xs = refl
-keys-forward (Body.Rows ys) xs = ap Body.Gone (sym (append-nil xs))
-keys-forward (Body.Got v) xs = ap Body.Gone (sym (append-nil xs))
-keys-forward Body.Unit xs = ap Body.Gone (sym (append-nil xs))
-keys-forward (Body.Number n) xs = ap Body.Gone (sym (append-nil xs))
-keys-forward (Body.Ended t) xs = ap Body.Gone (sym (append-nil xs))
-keys-forward (Body.Found t) xs = ap Body.Gone (sym (append-nil xs))
+keys-forward (Body.Rows ys) xs = ap Body.Gone (sym (append_nil xs))
+keys-forward (Body.Got v) xs = ap Body.Gone (sym (append_nil xs))
+keys-forward Body.Unit xs = ap Body.Gone (sym (append_nil xs))
+keys-forward (Body.Number n) xs = ap Body.Gone (sym (append_nil xs))
+keys-forward (Body.Ended t) xs = ap Body.Gone (sym (append_nil xs))
+keys-forward (Body.Found t) xs = ap Body.Gone (sym (append_nil xs))
 
 bodies-forward : (a c : Body) → join_bodies false a c ≡ join_forward (Some a) c
 bodies-forward (Body.Rows xs) c = rows-forward (Body.Rows xs) c xs
@@ -96,18 +94,10 @@ not-down (ResolveIntentRange a) h = refl
 not-down (AdminSplit a) h = refl
 not-down (AdminTransferLease a) h = refl
 
-or-left : (a b : Bool) → (a || b) ≡ false → a ≡ false
-or-left true b h = h
-or-left false b h = refl
-
-or-right : (a b : Bool) → (a || b) ≡ false → b ≡ false
-or-right true b h = cc
-or-right false b h = h
-
 pub one-forward : (i : Item) (items : List Item) → IsOneOf i items → list_any is_reverse_scan (requests_of items) ≡ false → goes_down i.request ≡ false
 one-forward i [] one h = absurd one
-one-forward i (j ∷ js) (inl same) h = subst (λ z. goes_down z.request ≡ false) (sym same) (not-down j.request (or-left _ _ h))
-one-forward i (j ∷ js) (inr rest) h = one-forward i js rest (or-right (is_reverse_scan j.request) _ h)
+one-forward i (j ∷ js) (inl same) h = subst (λ z. goes_down z.request ≡ false) (sym same) (not-down j.request (or_first _ _ h))
+one-forward i (j ∷ js) (inr rest) h = one-forward i js rest (or_second (is_reverse_scan j.request) _ h)
 
 -- one more piece
 
@@ -141,7 +131,7 @@ so-again q a b c i s m old now new body r l so sp t = record {
     left_less = (let h = sp.left_less in let k = so.spent.left_less in omega (arith, h, k));
   };
   trip = trip-then q a b c so.got [] so.refused so.lost r l so.trip t;
-  front = subst (λ xs. Front i s m xs body) (sym (append-nil so.got)) so.front;
+  front = subst (λ xs. Front i s m xs body) (sym (append_nil so.got)) so.front;
   fresh = so.fresh;
 }
 

@@ -1,9 +1,10 @@
 -- A legal batch of what is built can be sent.
-use Rattle.std.proofs.Common.{◌≡◌, ℕ, ◌+◌, ◌<◌, ◌≤◌, Bool, true, false, ◌&&◌, ◌||◌, List, [], ◌∷◌, ◌++◌, length, Option, Some, None, is_some, is_none, refl, sym, ap, ◌∙◌, subst, arith}
+use Rattle.std.proofs.Common.{◌≡◌, ℕ, ◌+◌, ◌<◌, ◌≤◌, Bool, true, false, ◌||◌, List, [], ◌∷◌, ◌++◌, length, Option, Some, None, is_some, is_none, refl, sym, ap, ◌∙◌, subst, arith}
 use Rattle.std.specs.List.{list_all, list_any, flat_map, All}
 use Rattle.std.proofs.lemmas.List.{length-map}
 use Rattle.std.proofs.lemmas.List.Elements.{All-head}
 use Rattle.ds_base.specs.declared.value.Stamp.{Stamp}
+use Rattle.ds_base.proofs.SmallFacts.{and_both, and_first, and_second, or_first, or_neither, or_right, or_second}
 use Rattle.ds_cell.specs.Content.{Rises, AllAbove}
 use Rattle.ds_kind.specs.Asks.{flags_at, has_proper_span, is_end, is_reverse_scan, fits_all, acts}
 use Rattle.ds_kind.specs.Flags.{fit, flags_of}
@@ -38,28 +39,6 @@ positions-rise pos last (r ∷ rs) = (above-all pos (pos + 1) _ rs (omega arith)
 
 -- what is built
 
-and-first : (a b : Bool) → (a && b) ≡ true → a ≡ true
-and-first true b h = refl
-and-first false b h = h
-
-and-second : (a b : Bool) → (a && b) ≡ true → b ≡ true
-and-second true b h = h
-and-second false b h = cc
-
-and-both : (a b : Bool) → a ≡ true → b ≡ true → (a && b) ≡ true
-and-both a b p q = cc
-
-or-both : (a b : Bool) → a ≡ false → b ≡ false → (a || b) ≡ false
-or-both a b p q = cc
-
-or-first : (a b : Bool) → (a || b) ≡ false → a ≡ false
-or-first true b h = h
-or-first false b h = refl
-
-or-second : (a b : Bool) → (a || b) ≡ false → b ≡ false
-or-second true b h = cc
-or-second false b h = h
-
 built-plain : (at : Option Stamp) (r : Request) → is_built_request at r ≡ true → (is_plain_read r || is_value_write r) ≡ true
 built-plain None r h = ap (λ t. t || is_value_write r) h
 built-plain (Some s) r h = h
@@ -75,13 +54,13 @@ plain-endless r h = refl
 none-of-built : (p : Request → Bool) (at : Option Stamp) (rs : List Request) → ((r : Request) → (is_plain_read r || is_value_write r) ≡ true → p r ≡ false) → list_all (is_built_request at) rs ≡ true → list_any p rs ≡ false
 none-of-built p at [] never h = refl
 none-of-built p at (r ∷ rs) never h =
-    or-both (p r) (list_any p rs) (never r (built-plain at r (and-first _ (list_all (is_built_request at) rs) h))) (none-of-built p at rs never (and-second (is_built_request at r) _ h))
+    or_neither (p r) (list_any p rs) (never r (built-plain at r (and_first _ (list_all (is_built_request at) rs) h))) (none-of-built p at rs never (and_second (is_built_request at r) _ h))
 
 -- a legal batch of what is built can be sent request by request
 pub sendable : (b : Batch) (q : Asking) (last : ℕ) → IsLegal b → is_built b ≡ true → q.items ≡ items_from 0 b.requests (numbers_from last b.requests) → IsSendable q
 sendable b q last legal built is =
     let rs : requests_of q.items ≡ b.requests = ap requests_of is ∙ requests-numbered 0 last b.requests in
-    let all : list_all (is_built_request b.at) b.requests ≡ true = and-second (is_none b.limit) _ built in
+    let all : list_all (is_built_request b.at) b.requests ≡ true = and_second (is_none b.limit) _ built in
     record {
       rising = subst (Rises position_of) (sym is) (positions-rise 0 last b.requests);
       proper = ap (list_all has_proper_span) rs ∙ legal.spans;
@@ -91,19 +70,15 @@ sendable b q last legal built is =
 -- requests that join one group fit each other
 
 fits-push : (p : Request → Bool) (rs : List Request) (r : Request) → list_all p rs ≡ true → p r ≡ true → list_all p (rs ++ r ∷ []) ≡ true
-fits-push p [] r h k = and-both (p r) true k refl
-fits-push p (q ∷ rs) r h k = and-both (p q) (list_all p (rs ++ r ∷ [])) (and-first _ (list_all p rs) h) (fits-push p rs r (and-second (p q) _ h) k)
-
-or-true : (a b : Bool) → b ≡ true → (a || b) ≡ true
-or-true true b h = refl
-or-true false b h = h
+fits-push p [] r h k = and_both (p r) true k refl
+fits-push p (q ∷ rs) r h k = and_both (p q) (list_all p (rs ++ r ∷ [])) (and_first _ (list_all p rs) h) (fits-push p rs r (and_second (p q) _ h) k)
 
 fit-push : (rs : List Request) (r : Request) → all_fit rs ≡ true → fits_all rs r ≡ true → all_fit (rs ++ r ∷ []) ≡ true
 fit-push [] r h k = refl
 fit-push (q ∷ rs) r h k =
-    and-both _ (all_fit (rs ++ r ∷ []))
-    (fits-push (λ p. is_end p || fit (flags_at q) (flags_at p)) rs r (and-first _ (all_fit rs) h) (or-true (is_end r) _ (and-first _ (fits_all rs r) k)))
-    (fit-push rs r (and-second (list_all (λ p. is_end p || fit (flags_at q) (flags_at p)) rs) _ h) (and-second (fit (flags_at q) (flags_at r)) _ k))
+    and_both _ (all_fit (rs ++ r ∷ []))
+    (fits-push (λ p. is_end p || fit (flags_at q) (flags_at p)) rs r (and_first _ (all_fit rs) h) (or_right (is_end r) _ (and_first _ (fits_all rs r) k)))
+    (fit-push rs r (and_second (list_all (λ p. is_end p || fit (flags_at q) (flags_at p)) rs) _ h) (and_second (fit (flags_at q) (flags_at r)) _ k))
 
 AllFit : List Request → Type 0
 AllFit g = all_fit g ≡ true
@@ -157,21 +132,21 @@ reads-fit q r h k = cc
 read-fits-all : (q : Request) (rs : List Request) → is_plain_read q ≡ true → list_all is_plain_read rs ≡ true → list_all (λ p. is_end p || fit (flags_at q) (flags_at p)) rs ≡ true
 read-fits-all q [] h k = refl
 read-fits-all q (r ∷ rs) h k =
-    and-both _ (list_all (λ p. is_end p || fit (flags_at q) (flags_at p)) rs)
-    (or-true (is_end r) _ (reads-fit q r h (and-first _ (list_all is_plain_read rs) k)))
-    (read-fits-all q rs h (and-second (is_plain_read r) _ k))
+    and_both _ (list_all (λ p. is_end p || fit (flags_at q) (flags_at p)) rs)
+    (or_right (is_end r) _ (reads-fit q r h (and_first _ (list_all is_plain_read rs) k)))
+    (read-fits-all q rs h (and_second (is_plain_read r) _ k))
 
 reads-all-fit : (rs : List Request) → list_all is_plain_read rs ≡ true → all_fit rs ≡ true
 reads-all-fit [] h = refl
 reads-all-fit (r ∷ rs) h =
-    and-both _ (all_fit rs) (read-fits-all r rs (and-first _ (list_all is_plain_read rs) h) (and-second (is_plain_read r) _ h)) (reads-all-fit rs (and-second (is_plain_read r) _ h))
+    and_both _ (all_fit rs) (read-fits-all r rs (and_first _ (list_all is_plain_read rs) h) (and_second (is_plain_read r) _ h)) (reads-all-fit rs (and_second (is_plain_read r) _ h))
 
 quiet-reads : (at : Option Stamp) (rs : List Request) → list_all (is_built_request at) rs ≡ true → list_any acts rs ≡ false → list_all is_plain_read rs ≡ true
 quiet-reads at [] h quiet = refl
 quiet-reads at (r ∷ rs) h quiet =
-    and-both _ (list_all is_plain_read rs)
-    (quiet-read r (built-plain at r (and-first _ (list_all (is_built_request at) rs) h)) (or-first _ (list_any acts rs) quiet))
-    (quiet-reads at rs (and-second (is_built_request at r) _ h) (or-second (acts r) _ quiet))
+    and_both _ (list_all is_plain_read rs)
+    (quiet-read r (built-plain at r (and_first _ (list_all (is_built_request at) rs) h)) (or_first _ (list_any acts rs) quiet))
+    (quiet-reads at rs (and_second (is_built_request at r) _ h) (or_second (acts r) _ quiet))
 
 batch-fits : (b : Batch) → IsLegal b → is_some b.at ≡ true → list_all (is_built_request b.at) b.requests ≡ true → all_fit b.requests ≡ true
 batch-fits b legal at built =

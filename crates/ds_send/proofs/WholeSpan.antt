@@ -1,13 +1,13 @@
 -- The least span that holds the spans of all requests.
-use Rattle.std.proofs.Common.{◌≡◌, ℕ, Bool, true, false, cond, ◌&&◌, List, [], ◌∷◌, refl, ap, ◌∙◌}
+use Rattle.std.proofs.Common.{◌≡◌, ℕ, true, false, cond, List, [], ◌∷◌, refl}
 use Rattle.std.specs.List.{list_all}
 use Rattle.ds_base.specs.Order.{Extent, key_lt, key_le, min_key, max_key}
 use Rattle.ds_base.proofs.KeyOrder.{key_le_lt-trans}
-use Rattle.ds_base.proofs.SmallFacts.{and_first, and_second}
+use Rattle.ds_base.proofs.SmallFacts.{and_both, and_first, and_second}
 use Rattle.ds_base.proofs.OrderedFacts.{le_of_lt, le_of_not_lt, le_trans, lt_le_trans}
 use Rattle.ds_kind.specs.Request.{span_of}
 use Rattle.ds_kind.specs.declared.batch.Item.{Item}
-use Rattle.ds_rule.specs.Cause.{whole_span, widened}
+use Rattle.ds_kind.specs.WholeSpan.{whole_span, widened}
 use Rattle.ds_rule.specs.Path.{holds_span}
 use Rattle.ds_rule.proofs.Routes.{le_itself}
 
@@ -43,9 +43,6 @@ max_high_too a b =
       | true ↦ λ h. le_itself b
       | false ↦ λ h. le_of_not_lt a b h
     ] refl
-
-and_both : (a b : Bool) → a ≡ true → b ≡ true → (a && b) ≡ true
-and_both a b p q = ap (λ t. t && b) p ∙ q
 
 narrower : (d w s : Extent) → holds_span d w ≡ true → key_le w.start s.start ≡ true → key_le s.end w.end ≡ true → holds_span d s ≡ true
 narrower d w s h from to =

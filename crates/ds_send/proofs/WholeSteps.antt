@@ -1,10 +1,11 @@
 -- A batch that is sent in one piece.
 use Rattle.std.proofs.Common.{◌≡◌, ℕ, ◌+◌, Bool, true, false, List, [], ◌∷◌, ◌++◌, map, None, inl, inr, refl, sym, ap, ◌∙◌, subst, append_assoc}
 use Rattle.std.specs.List.{list_all}
-use Rattle.ds_base.specs.Order.{Extent, key_lt}
+use Rattle.ds_base.specs.Order.{Extent}
 use Rattle.ds_base.specs.declared.value.Dir.TheVariants.{Forward}
-use Rattle.ds_base.proofs.KeyOrder.{below-after}
 use Rattle.ds_base.proofs.SmallFacts.{and_first, and_second}
+use Rattle.ds_send.proofs.AllSoFar.{proper-some}
+use Rattle.ds_rule.proofs.Eachs.{each-append}
 use Rattle.ds_desc.specs.Contains.{contains}
 use Rattle.ds_desc.specs.declared.desc.Info.{Info}
 use Rattle.ds_desc.specs.declared.meta.Looked.TheVariants as Looked
@@ -24,36 +25,20 @@ use Rattle.ds_rule.specs.declared.event.Event.{Event}
 use Rattle.ds_rule.specs.declared.journal.JournalStep.{JournalStep}
 use Rattle.ds_rule.specs.declared.journal.JournalStep.TheVariants.{Look, Send}
 use Rattle.ds_rule.specs.Asking.{Asking}
-use Rattle.ds_rule.specs.Cause.{Trip, IsWholeOf, IsIdle, whole_span}
+use Rattle.ds_kind.specs.WholeSpan.{whole_span}
+use Rattle.ds_rule.specs.Cause.{Trip, IsWholeOf, IsIdle}
 use Rattle.ds_rule.specs.Clauses.{Stands, Steps, and_step}
 use Rattle.ds_rule.specs.Journal.{Happening, Moved, Did, Accepted, accepted_by}
 use Rattle.ds_rule.specs.Path.{GoesTo, IsRouted, IsStepOf, holds_span}
 use Rattle.ds_rule.specs.Pieces.{Each, IsOneOf, IsCut, PieceOf}
 use Rattle.ds_rule.proofs.Routes.{le_itself}
-use Rattle.ds_rule.proofs.Trips.{each-append, trip-none, trip-step, trip-then, step-added, then-added, none-added}
+use Rattle.ds_rule.proofs.Trips.{trip-none, trip-step, trip-then, step-added, then-added, none-added}
 use Rattle.ds_send.specs.Sent.{IsWholeSendable, IsTold, InVain, ServedOnce, FailedOnce, WideOnce, LostOnce}
 use Rattle.ds_send.proofs.Cuts.{goes-forward}
 use Rattle.ds_send.proofs.Going.{IsSent, before_send, sent-trip, trip-added}
 use Rattle.ds_send.proofs.WholeSpan.{whole-held}
 
 -- the whole batch is a piece of itself
-
-pub proper-below : (r : Request) → has_proper_span r ≡ true → key_lt (span_of r).start (span_of r).end ≡ true
-proper-below (Get a) h = below-after a.key
-proper-below (Scan a) h = h
-proper-below (ReverseScan a) h = h
-proper-below (Put a) h = below-after a.key
-proper-below (ConditionalPut a) h = below-after a.key
-proper-below (InitPut a) h = below-after a.key
-proper-below (Increment a) h = below-after a.key
-proper-below (Delete a) h = below-after a.key
-proper-below (DeleteRange a) h = h
-proper-below (EndTxn a) h = below-after a.key
-proper-below (QueryIntent a) h = below-after a.key
-proper-below (ResolveIntent a) h = below-after a.key
-proper-below (ResolveIntentRange a) h = h
-proper-below (AdminSplit a) h = below-after a.key
-proper-below (AdminTransferLease a) h = below-after a.key
 
 cut-whole : (r : Request) → r ≡ cut_to (span_of r).start (span_of r).end r
 cut-whole (Get a) = refl
@@ -81,7 +66,7 @@ each-cut whole (i ∷ is) there h = (
     position = refl;
     number = refl;
     request = cut-whole i.request;
-    some = proper-below i.request (and_first (has_proper_span i.request) _ h);
+    some = proper-some i.request (and_first (has_proper_span i.request) _ h);
     from = le_itself (span_of i.request).start;
     to = le_itself (span_of i.request).end;
   },

@@ -1,5 +1,7 @@
 -- Tries of a whole batch, one after the other.
 use Rattle.std.proofs.Common.{◌≡◌, ℕ, ◌+◌, true, false, List, [], ◌∷◌, ◌++◌, inl, inr, refl, sym, ◌∙◌, subst, arith}
+use Rattle.ds_base.proofs.SmallFacts.{append_nil}
+use Rattle.ds_rule.proofs.Eachs.{each-append}
 use Rattle.ds_desc.specs.declared.desc.RangeDesc.{RangeDesc}
 use Rattle.ds_kind.specs.declared.reply.Failure.{Failure}
 use Rattle.ds_kind.specs.declared.reply.Reply.{Reply}
@@ -11,14 +13,13 @@ use Rattle.ds_rule.specs.Cause.{LastFails, IsHeldBack, IsWholeOf, IsIdle, WholeC
 use Rattle.ds_rule.specs.Clauses.{Stands}
 use Rattle.ds_rule.specs.Journal.{Happening, Did}
 use Rattle.ds_rule.specs.Pieces.{Each}
-use Rattle.ds_rule.proofs.Routes.{append-nil}
-use Rattle.ds_rule.proofs.Trips.{each-append, trip-then, then-added}
+use Rattle.ds_rule.proofs.Trips.{trip-then, then-added}
 use Rattle.ds_send.specs.declared.tries.Tries.{Tries}
 use Rattle.ds_send.specs.Sent.{AmbiguousBy, IsTold, ToldButLast, DidOnce, InVain, ServedOnce, FailedOnce, WideOnce, LostOnce, Trying, Spent, any_risky, outcome_of}
 use Rattle.ds_send.proofs.WholeSteps.{none-tried, vain-then, vain-added, then-each, after-all}
 
 told-all : (hs : List Happening) → Each IsTold hs → ToldButLast hs
-told-all hs told = record { before = hs; told = told; later = []; one = omega arith; is = sym (append-nil hs) }
+told-all hs told = record { before = hs; told = told; later = []; one = omega arith; is = sym (append_nil hs) }
 
 -- the last try
 

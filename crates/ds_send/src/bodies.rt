@@ -1,7 +1,6 @@
 //! The body of a request, made of those of its pieces.
 ghost use Rattle.std.specs.Prelude.{◌≡◌, ◌++◌, false, IfOk, OnOk};
-ghost use Rattle.ds_cell.specs.Replies.{join_bodies, join_rows, join_keys};
-ghost use Rattle.ds_rule.specs.Gathered.{goes_down};
+ghost use Rattle.ds_kind.specs.Bodies.{goes_down, join_bodies, join_rows, join_keys};
 ghost use Rattle.ds_send.specs.Bodies.{join_forward, rows_in, keys_in};
 
 use ds_base::Keys;

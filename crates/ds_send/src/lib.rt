@@ -3,16 +3,17 @@
 #![tactic(auto)]
 
 mod asked;
-pub mod batch;
+mod batch;
 mod bodies;
 mod failure;
 mod pieces;
 mod requests;
 mod route;
-pub mod sender;
+mod sender;
 mod tries;
-pub mod txn;
+mod txn;
 mod whole;
 
+pub use batch::{all_plain_reads, is_built};
 pub use sender::Sender;
 pub use txn::Txn;

@@ -17,14 +17,25 @@ use ds_kind::{Batch, Head};
 use ds_legal::{Legal, check, numbers};
 use ds_rule::{Outcome, Wire};
 use std::alloc::{AllocError, Global};
+use std::marker::Model;
 
-/// A sender with its settings.
+/// A sender with its settings. A contract sees how many descriptors its cache may hold, and how
+/// many refusals and losses a batch may meet: each at least 1.
 #[derive(Drop)]
 pub struct Sender {
-    /// How many descriptors its cache may hold.
-    pub capacity: u32,
-    /// How many refusals and losses a batch may meet.
-    pub budget: u32,
+    capacity: u32,
+    budget: u32,
+}
+
+impl Model for Sender {
+    ghost use Rattle.std.specs.Prelude.{◌<◌};
+    ghost use Rattle.ds_send.specs.Sender.{SenderState};
+
+    ghost Value = { SenderState };
+
+    ghost view = { λ a. record { capacity = a.capacity; budget = a.budget } };
+
+    ghost invariant = { λ a. (0 < a.capacity) × (0 < a.budget) };
 }
 
 /// The batch with the numbers of its requests, after the last number given.
@@ -97,9 +108,30 @@ fn send_legal<W: Wire>(
     }
 }
 
-impl Sender {
-    ghost use Rattle.ds_send.specs.declared.sender.Sender.{Sender};
+/// Sends a batch that keeps every rule, and answers the first rule that any other breaks.
+fn send_checked<W: Wire>(
+    alloc: Global,
+    wire: &mut W,
+    txn: Option<Txn>,
+    batch: &Batch,
+    budget: u32,
+) -> Outcome
+    requires built { is_built batch.now ≡ true }
+    requires open { IsOpenFor batch.now.at (asker_in txn) }
+    ensures ruled { Ruled (first_illegal batch.now) result (W.state wire.old) (W.state wire.new) }
+    ensures sent { IsGiven result → Sent (first_illegal batch.now) budget batch.now (asking (asker_in txn) batch.now) (W.state wire.old) (W.state wire.new) result }
+    ensures plain { IsGiven result → Plain (first_illegal batch.now) batch.now (asking (asker_in txn) batch.now) (W.state wire.old) (W.state wire.new) result }
+{
+    match check(batch) {
+        Ok(legal) => match send_legal(alloc, wire, txn, &legal, budget) {
+            Ok(outcome) => outcome,
+            Err(_) => Outcome::OutOfMemory,
+        },
+        Err(illegal) => Outcome::Illegal(illegal),
+    }
+}
 
+impl Sender {
     /// A sender that knows no range yet. Both numbers are at least 1.
     pub fn new(_alloc: Global, capacity: u32, budget: u32) -> Result<Sender, AllocError>
         requires some_room { 0 < capacity }
@@ -112,8 +144,9 @@ impl Sender {
     /// Sends the batch over the wire, and says what it came to. A batch without a stamp is of the
     /// open transaction. A batch that breaks a rule is answered with the first rule that it
     /// breaks, and nothing is sent. The answer shows its cause in the steps that were made, and
-    /// means what a plain store would answer that the world stands for. Pieces that were applied
-    /// stay so, whatever the answer.
+    /// means what a plain store would answer that the world stands for; for a batch in one piece
+    /// that is said where the call met nothing but its own steps, and where no transaction is open
+    /// or the batch only reads. Pieces that were applied stay so, whatever the answer.
     pub fn send<W: Wire>(
         &mut self,
         alloc: Global,
@@ -129,14 +162,6 @@ impl Sender {
         ensures kept { self.new ≡ self.old }
         ensures same_txn { txn.new ≡ txn.old }
     {
-        let budget = self.budget;
-        let open = *txn;
-        match check(batch) {
-            Ok(legal) => match send_legal(alloc, wire, open, &legal, budget) {
-                Ok(outcome) => outcome,
-                Err(_) => Outcome::OutOfMemory,
-            },
-            Err(illegal) => Outcome::Illegal(illegal),
-        }
+        send_checked(alloc, wire, *txn, batch, self.budget)
     }
 }

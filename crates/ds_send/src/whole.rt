@@ -6,7 +6,7 @@ ghost use Rattle.ds_base.specs.declared.value.Dir.TheVariants.{Forward};
 ghost use Rattle.ds_kind.specs.Asks.{has_proper_span};
 ghost use Rattle.ds_kind.specs.Parts.{requests_of};
 ghost use Rattle.ds_kind.specs.Request.{span_of};
-ghost use Rattle.ds_rule.specs.Cause.{whole_span, widened};
+ghost use Rattle.ds_kind.specs.WholeSpan.{whole_span, widened};
 ghost use Rattle.ds_send.specs.Sent.{CameOf, DidOnce, IsWholeSendable, any_risky, is_risky};
 
 use crate::asked::Asked;

@@ -3,9 +3,6 @@ use Rattle.std.proofs.Common.{◌≡◌, ℕ, suc, ◌+◌, ◌-◌, ◌<◌, dr
 use Rattle.std.specs.declared.alloc.AllocError.{AllocError}
 use Rattle.ds_desc.specs.declared.desc.Info.{Info}
 use Rattle.std.specs.List.{list_any}
-use Rattle.std.specs.Ordering.{is_gt, is_le}
-use Rattle.std.specs.declared.cmp.Ordering.{Ordering}
-use Rattle.std.specs.declared.cmp.Ordering.TheVariants.{Less, Equal, Greater}
 use Rattle.std.proofs.Math.Seq.{take-length}
 use Rattle.std.proofs.lemmas.Bool.Decides.{nat_tests}
 use Rattle.ds_base.specs.Order.{key_lt, key_le, bound, holds, IsKey}
@@ -13,8 +10,9 @@ use Rattle.ds_base.specs.declared.value.Dir.{Dir}
 use Rattle.ds_base.specs.declared.value.Dir.TheVariants.{Forward, Reverse}
 use Rattle.std.proofs.lemmas.List.{drop_more, length-drop, reverse-append}
 use Rattle.ds_base.proofs.KeyOrder.{key_le-not_lt}
-use Rattle.ds_base.proofs.SmallFacts.{and_first, and_second}
+use Rattle.ds_base.proofs.SmallFacts.{and_first, and_second, not_greater}
 use Rattle.ds_base.proofs.OrderedFacts.{le_of_not_lt, not_lt_of_le, not_le_of_lt}
+use Rattle.ds_rule.proofs.Standing.{least}
 use Rattle.ds_desc.specs.Contains.{contains, lies_ahead, first_contains}
 use Rattle.ds_rule.specs.declared.cluster.ClusterRange.{ClusterRange}
 use Rattle.ds_rule.specs.World.{Range, start_of, end_of, Tiles, in_order, from_first}
@@ -112,20 +110,11 @@ first_of_some d k (x ∷ xs) h =
       | false ↦ λ e g. first_of_some d k xs g
     ] refl h
 
-not_gt : (o : Ordering) → is_gt o ≡ false → is_le o ≡ true
-not_gt Less h = refl
-not_gt Equal h = refl
-not_gt Greater h = sym h
-
-least : (k : List ℕ) → key_le [] k ≡ true
-least [] = refl
-least (x ∷ xs) = refl
-
 -- a lookup's first row contains the key
 pub first_row : (d : Dir) (k : List ℕ) (rs : List Range) → Tiles [] rs → IsKey k → lies_ahead d k ≡ true → first_contains d k (rows_of d k rs) ≡ true
 first_row Forward k rs t key h = first_of_some Forward k rs (some_forward [] k rs t (least k) h)
 first_row Reverse k rs t key h =
-    first_of_some Reverse k (reverse rs) (some_in_order Reverse (λ r. contains Reverse k r.info.desc.span) rs (some_reverse [] k rs t h (not_gt _ key.low)))
+    first_of_some Reverse k (reverse rs) (some_in_order Reverse (λ r. contains Reverse k r.info.desc.span) rs (some_reverse [] k rs t h (not_greater _ key.low)))
 
 pub first_ok : (d : Dir) (k : List ℕ) (rs : List Range) (r : Result (List Info) AllocError) → Tiles [] rs → IsKey k → lies_ahead d k ≡ true → IfOk r (λ is. is ≡ rows_of d k rs) → IfOk r (λ is. first_contains d k is ≡ true)
 first_ok d k rs (Ok is) t key h e = subst (λ z. first_contains d k z ≡ true) (sym e) (first_row d k rs t key h)

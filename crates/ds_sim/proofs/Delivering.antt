@@ -7,6 +7,7 @@ use Rattle.std.proofs.Math.ListN.{set}
 use Rattle.std.proofs.lemmas.Option.{get_or_from_slice_get}
 use Rattle.ds_base.specs.declared.value.Stamp.{Stamp}
 use Rattle.ds_base.specs.declared.value.Value.{Value}
+use Rattle.ds_base.proofs.SmallFacts.{some_none, some_same}
 use Rattle.ds_desc.specs.declared.refusal.Refusal.TheVariants.{NotFound}
 use Rattle.ds_kind.specs.declared.batch.Piece.{Piece}
 use Rattle.ds_cell.specs.Ask.{Cells}
@@ -36,12 +37,6 @@ not_there w node p none = record {
   answer = sym (ap (deliver_answer_to w node p) none);
   after = sym (ap (λ o. (deliver_world_to w node p o).ranges) none);
 }
-
-some_same : {X : Type 0} (x y : X) → Some x ≡ Some y → x ≡ y
-some_same x y h = cc
-
-some_none : {X : Type 0} {G : Type 0} (x : X) → Some x ≡ None → G
-some_none x h = cc
 
 turned_by : (w : World) (node : ℕ) (p : Piece) (r : Range) (o : Option Stop) (a : Answer) → Some a ≡ option_map stop_answer o → (a ≡ answer_at w p r o) × (w.ranges ≡ (world_at w p r o).ranges)
 turned_by w node p r None a h = some_none a h

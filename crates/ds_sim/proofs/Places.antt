@@ -10,7 +10,7 @@ use Rattle.ds_rule.specs.Moves.{holds_key}
 use Rattle.ds_rule.proofs.Tiling.{tiles-put}
 use Rattle.std.specs.List.{find, position_or_len}
 use Rattle.std.proofs.Math.ListN.{set}
-use Rattle.std.proofs.lemmas.Bool.Decides.{nat_tests}
+use Rattle.ds_base.proofs.SmallFacts.{ge_of, lt_of, none_some, some_none, some_same}
 use Rattle.ds_rule.specs.World.{Range, Tiles}
 use Rattle.ds_rule.specs.Deliver.{replaced}
 
@@ -29,18 +29,6 @@ placed_at p f (x ∷ xs) i y at low is =
 record Found (p : Range → Bool) (xs : List Range) (i : ℕ) : Type 0 where
   at : i ≡ position_or_len p xs
   low : i < length xs
-
-lt_of : (n m : ℕ) → nat_lt n m ≡ true → n < m
-lt_of n m h = grind (arith, nat_tests)
-
-ge_of : (n m : ℕ) → nat_lt n m ≡ false → m ≤ n
-ge_of n m h = grind (arith, nat_tests)
-
-some_same : {X : Type 0} (x y : X) → Some x ≡ Some y → x ≡ y
-some_same x y h = cc
-
-none_some : {X : Type 0} {G : Type 0} (x : X) → None ≡ Some x → G
-none_some x h = cc
 
 found : (p : Range → Bool) (xs : List Range) (i : ℕ) → position p xs ≡ Some i → Found p xs i
 found p xs i h =
@@ -65,9 +53,6 @@ none_at p f (x ∷ xs) h =
       | true ↦ λ e g. absurd (omega (arith, g))
       | false ↦ λ e g. ap (λ zs. x ∷ zs) (none_at p f xs (omega (arith, g)))
     ] refl h
-
-some_none : {X : Type 0} {G : Type 0} (x : X) → Some x ≡ None → G
-some_none x h = cc
 
 -- where none passes, nothing changes
 pub unplaced : (p : Range → Bool) (f : Range → Range) (xs : List Range) → position p xs ≡ None → replaced p f xs ≡ xs

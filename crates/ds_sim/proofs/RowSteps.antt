@@ -3,26 +3,20 @@ use Rattle.std.proofs.Common.{◌≡◌, ℕ, zero, suc, ◌+◌, ◌-◌, ◌<�
 use Rattle.std.proofs.lemmas.List.{take_more, get_or-reverse, length-reverse}
 use Rattle.std.proofs.lemmas.Option.{get_or_from_slice_get, slice_get_read}
 use Rattle.std.proofs.lemmas.Bool.Decides.{nat_tests}
-use Rattle.std.specs.Ordering.{is_gt, is_lt, ordering_reverse}
-use Rattle.std.specs.declared.cmp.Ordering.{Ordering}
-use Rattle.std.specs.declared.cmp.Ordering.TheVariants.{Less, Equal, Greater}
+use Rattle.std.specs.Ordering.{is_lt}
 use Rattle.std.proofs.lemmas.Cmp.{nat_list_cmp_total}
 use Rattle.ds_base.specs.Order.{key_cmp, key_lt, key_le, after}
 use Rattle.ds_base.specs.declared.value.Dir.{Dir}
 use Rattle.ds_base.specs.declared.value.Dir.TheVariants.{Forward, Reverse}
 use Rattle.ds_base.proofs.KeyOrder.{after-above, key_le-not_lt}
+use Rattle.ds_base.proofs.SmallFacts.{less_reversed}
 use Rattle.ds_desc.specs.declared.desc.Info.{Info}
 use Rattle.ds_rule.specs.World.{Range, in_order, from_first}
 use Rattle.ds_sim.specs.Rows.{with_row}
 
-gt_turned : (o : Ordering) → is_lt (ordering_reverse o) ≡ is_gt o
-gt_turned Less = refl
-gt_turned Equal = refl
-gt_turned Greater = refl
-
 -- a key is below the one after k exactly where it is not above k
 pub below_next : (s k : List ℕ) → key_lt s (after k) ≡ key_le s k
-below_next s k = ap is_lt (nat_list_cmp_total.antisymm s (after k)) ∙ gt_turned (key_cmp (after k) s) ∙ after-above k s ∙ sym (key_le-not_lt s k)
+below_next s k = ap is_lt (nat_list_cmp_total.antisymm s (after k)) ∙ less_reversed (key_cmp (after k) s) ∙ after-above k s ∙ sym (key_le-not_lt s k)
 
 succ_lt : (m n : ℕ) → nat_lt (suc m) (suc n) ≡ nat_lt m n
 succ_lt m n = grind (arith, nat_tests)

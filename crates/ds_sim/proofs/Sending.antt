@@ -1,8 +1,8 @@
 -- What a delivery adds to what a wire stands for.
 use Rattle.std.proofs.Common.{◌≡◌, ℕ, ◌<◌, ◌≤◌, ◌+◌, ◌-◌, ◌^◌, Bool, true, false, cond, List, [], ◌∷◌, ◌++◌, Option, Some, None, inl, inr, refl, sym, ap, ◌∙◌, subst, map, nat_lt, arith}
 use Rattle.std.specs.List.{find}
-use Rattle.std.proofs.lemmas.Bool.Decides.{nat_tests}
-use Rattle.ds_desc.specs.Counts.{Rose}
+use Rattle.ds_base.specs.Counts.{Rose}
+use Rattle.ds_base.proofs.SmallFacts.{append_nil, ge_of}
 use Rattle.ds_kind.specs.declared.batch.Piece.{Piece}
 use Rattle.ds_rule.specs.declared.answer.Answer.{Answer}
 use Rattle.ds_rule.specs.declared.answer.Answer.TheVariants.{Done, Failed, Refused, Lost}
@@ -25,17 +25,11 @@ map_append : (xs ys : List JournalStep) → map Did (xs ++ ys) ≡ map Did xs ++
 map_append [] ys = refl
 map_append (x ∷ xs) ys = ap (λ zs. Did x ∷ zs) (map_append xs ys)
 
-lt_of : (n m : ℕ) → nat_lt n m ≡ true → n < m
-lt_of n m h = grind (arith, nat_tests)
-
-ge_of : (n m : ℕ) → nat_lt n m ≡ false → m ≤ n
-ge_of n m h = grind (arith, nat_tests)
-
 raised : (n : ℕ) → n < 2 ^ 64 → Rose n (cond (nat_lt n (2 ^ 64 - 1)) (n + 1) n)
 raised n fits =
     elim (nat_lt n (2 ^ 64 - 1)) as (λ t. nat_lt n (2 ^ 64 - 1) ≡ t → Rose n (cond t (n + 1) n)) [
       | true ↦ λ e. inl (omega arith)
-      | false ↦ λ e. let high : 2 ^ 64 - 1 ≤ n = ge_of n (2 ^ 64 - 1) e in inr (omega arith)
+      | false ↦ λ e. let high : 2 ^ 64 - 1 ≤ n = ge_of n (2 ^ 64 - 1) e in let same : n ≡ 2 ^ 64 - 1 = omega arith in inr (same, same)
     ] refl
 
 refuses_of : (n : ℕ) (p : Piece) (a : Answer) (c : ℕ) → c < 2 ^ 64 → IsRefused (Send n p a) → Rose c (refused_after a c)
@@ -89,10 +83,6 @@ send_steps w v steps later floor c n p a grown is after fits = record {
   refuses = refuses_of n p a c fits;
   loses = loses_of w n p a is;
 }
-
-append_nil : {X : Type 0} (xs : List X) → xs ++ [] ≡ xs
-append_nil [] = refl
-append_nil (x ∷ xs) = ap (λ zs. x ∷ zs) (append_nil xs)
 
 stays_here : (a : Stands) → Stays a a
 stays_here a = record {

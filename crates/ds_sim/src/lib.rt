@@ -1,13 +1,13 @@
 //! The simulated cluster: a wire that answers lookups and pieces as the world says.
 #![tactic(auto)]
 
-pub mod begin;
+mod begin;
 mod deliver;
-pub mod ranges;
+mod ranges;
 mod records;
-pub mod rows;
+mod rows;
 mod settle;
-pub mod sim;
+mod sim;
 #[cfg(test)]
 mod tests;
 

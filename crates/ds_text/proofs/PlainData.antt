@@ -1,8 +1,9 @@
 -- When JSON has no float and nests no deeper than n.
-use Rattle.std.proofs.Common.{◌≡◌, ℕ, suc, ◌≤◌, ℤ, pos, negsuc, List, [], ◌∷◌, map, Bool, false, ◌||◌, Option, Some, None, option_map, Ordering, Less, Equal, Greater, refl, arith}
+use Rattle.std.proofs.Common.{◌≡◌, ℕ, suc, ◌≤◌, ℤ, pos, negsuc, List, [], ◌∷◌, map, Bool, false, Option, Some, None, option_map, Ordering, Less, Equal, Greater, refl, arith}
 use Rattle.std.proofs.lemmas.Bool.{or_parts}
 use Rattle.std.specs.Ordering.{match_ordering, nat_cmp}
 use Rattle.std.specs.Cmp.Lexicographic.{slice_cmp}
+use Rattle.ds_base.proofs.SmallFacts.{or_neither}
 use Rattle.serde_json.specs.Data.{Data, boolean, number, string, array, object, Items, item, no_items, Members, member, no_members, items_depth, members_depth, put}
 use Rattle.serde_json.specs.Find.{of_integer}
 use Rattle.serde_json.specs.View.{items_of}
@@ -34,14 +35,11 @@ pub integer_plain : (n : ℕ) (z : ℤ) → Plain n (number (of_integer z))
 integer_plain n (pos m) = record { no_float = refl; shallow = omega arith }
 integer_plain n (negsuc m) = record { no_float = refl; shallow = omega arith }
 
-neither : (a b : Bool) → a ≡ false → b ≡ false → (a || b) ≡ false
-neither a b p q = rw p q
-
 pub last_plain : (n : ℕ) → PlainItems n no_items
 last_plain n = record { no_float = refl; shallow = omega arith }
 
 pub item_plain : {n : ℕ} {d : Data} {ds : Items} → Plain n d → PlainItems n ds → PlainItems n (item d ds)
-item_plain p q = record { no_float = neither _ _ p.no_float q.no_float; shallow = omega (arith, p.shallow, q.shallow) }
+item_plain p q = record { no_float = or_neither _ _ p.no_float q.no_float; shallow = omega (arith, p.shallow, q.shallow) }
 
 pub array_plain : {n : ℕ} {ds : Items} → PlainItems n ds → Plain (suc n) (array ds)
 array_plain p = record { no_float = p.no_float; shallow = omega (arith, p.shallow) }
@@ -61,7 +59,7 @@ pub none_plain : (n : ℕ) → PlainMembers n no_members
 none_plain n = record { no_float = refl; shallow = omega arith }
 
 pub member_plain : {n : ℕ} {k : List ℕ} {d : Data} {ms : Members} → Plain n d → PlainMembers n ms → PlainMembers n (member k d ms)
-member_plain p q = record { no_float = neither _ _ p.no_float q.no_float; shallow = omega (arith, p.shallow, q.shallow) }
+member_plain p q = record { no_float = or_neither _ _ p.no_float q.no_float; shallow = omega (arith, p.shallow, q.shallow) }
 
 pub lone_plain : {n : ℕ} {k : List ℕ} {d : Data} → Plain n d → PlainMembers n (member k d no_members)
 lone_plain {n} p = member_plain p (none_plain n)

@@ -1,6 +1,6 @@
-use Rattle.std.proofs.Common.{◌≡◌, ◌+◌, refl, ap, ◌∙◌, subst, take, drop}
+use Rattle.std.proofs.Common.{◌+◌, refl, ap, ◌∙◌, subst, take, drop}
 use Rattle.ds_replay.specs.Taken.{Taken}
-use Rattle.ds_replay.proofs.Scripts.{here, next-lines, replay-built, replay-first, replay-more, replay-within}
+use Rattle.ds_replay.proofs.Scripts.{here, next-lines, replay-built, replay-first, replay-more}
 use Rattle.ds_replay.proofs.script.replay.Goals as goal
 
 pub lines-init : goal.lines-init

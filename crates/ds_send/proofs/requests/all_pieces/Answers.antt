@@ -1,14 +1,11 @@
-use Rattle.std.proofs.Common.{◌≡◌, ◌<◌, true, false, refl, sym, ap, ◌∙◌, [], subst, rules, arith, Some, None}
-use Rattle.ds_base.specs.Order.{key_lt, key_le, IsKey}
-use Rattle.ds_base.specs.Number.{key_number}
+use Rattle.std.proofs.Common.{◌≡◌, true, false, sym, subst, rules, arith, Some, None}
+use Rattle.ds_base.specs.Order.{key_lt, key_le}
 use Rattle.ds_base.proofs.KeyNumber.{key_number-rises}
 use Rattle.ds_base.proofs.KeyOrder.{key_le-antisymm}
 use Rattle.ds_base.proofs.OrderedFacts.{le_of_lt, le_trans}
-use Rattle.ds_kind.specs.Request.{span_of}
 use Rattle.ds_rule.proofs.Routes.{le_itself}
-use Rattle.ds_send.specs.Sent.{GoesOn}
 use Rattle.ds_send.proofs.Going.{below_bound}
-use Rattle.ds_send.proofs.SoFar.{SoFar, so-start, so-on, so-again, so-done, so-stopped, failed-after, one-forward}
+use Rattle.ds_send.proofs.SoFar.{SoFar, so-start, so-on, so-again, so-done, failed-after, one-forward}
 use Rattle.ds_send.proofs.requests.all_pieces.Goals as goal
 
 pub pieces-init : goal.pieces-init

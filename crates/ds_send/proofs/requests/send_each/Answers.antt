@@ -1,12 +1,9 @@
-use Rattle.std.proofs.Common.{◌≡◌, ◌<◌, ◌+◌, ◌++◌, ◌∷◌, true, refl, sym, ap, ◌∙◌, [], subst, rules, length, get_or, take, None}
-use Rattle.ds_base.specs.Order.{key_lt}
-use Rattle.ds_kind.specs.Asks.{has_proper_span}
+use Rattle.std.proofs.Common.{◌≡◌, ◌<◌, ◌+◌, ◌++◌, ◌∷◌, true, sym, [], subst, rules, length, get_or, take, None}
 use Rattle.ds_kind.specs.Request.{span_of}
-use Rattle.ds_kind.specs.declared.batch.Item.{Item}
 use Rattle.ds_rule.specs.Law.{Did}
 use Rattle.ds_rule.specs.Pieces.{IsOneOf}
-use Rattle.ds_send.specs.Sent.{AnsweredBy, StoppedBy, FailedOn, GotBy}
-use Rattle.ds_send.proofs.AllSoFar.{AllSoFar, all-start, all-next, all-done, all-stopped, all-failed, one-of-get, proper-one, proper-some}
+use Rattle.ds_send.specs.Sent.{AnsweredBy}
+use Rattle.ds_send.proofs.AllSoFar.{AllSoFar, all-start, all-next, all-stopped, all-failed, one-of-get, proper-one, proper-some}
 use Rattle.ds_send.proofs.requests.send_each.Goals as goal
 
 pub requests-init : goal.requests-init

@@ -1,4 +1,4 @@
-use Rattle.std.proofs.Common.{◌≡◌, take}
+use Rattle.std.proofs.Common.{take}
 use Rattle.ds_send.proofs.AllSoFar.{AllSoFar}
 use Rattle.ds_send.proofs.requests.send_each.Given as goal
 

@@ -1,4 +1,4 @@
-use Rattle.std.proofs.Common.{◌≡◌, true, false, Some, None, refl, sym, ap, ◌∙◌, rules}
+use Rattle.std.proofs.Common.{◌≡◌, true, false, Some, sym, ◌∙◌, rules}
 use Rattle.ds_legal.specs.Legal.{IsLegal}
 use Rattle.ds_rule.specs.Asking.{asking}
 use Rattle.ds_send.specs.Asked.{asker_in}

@@ -5,7 +5,7 @@ use Rattle.ds_desc.specs.Contains.{contains}
 use Rattle.ds_desc.specs.declared.meta.Looked.TheVariants.{Rows}
 use Rattle.ds_rule.specs.declared.answer.Answer.TheVariants.{Done, Failed, Refused, Lost}
 use Rattle.ds_rule.specs.declared.journal.JournalStep.TheVariants.{Look}
-use Rattle.ds_rule.specs.Cause.{whole_span}
+use Rattle.ds_kind.specs.WholeSpan.{whole_span}
 use Rattle.ds_rule.specs.Clauses.{Steps}
 use Rattle.ds_send.proofs.WholeSteps.{holds-whole, look-lost, wide-once, goes, served-once, failed-once, refused-once, lost-once}
 use Rattle.ds_send.proofs.whole.one_try.Goals as goal

@@ -2,7 +2,7 @@ use Rattle.std.proofs.Common.{◌≡◌, true, drop}
 use Rattle.std.specs.List.{list_all}
 use Rattle.ds_kind.specs.Asks.{has_proper_span}
 use Rattle.ds_kind.specs.Parts.{requests_of}
-use Rattle.ds_rule.specs.Cause.{widened}
+use Rattle.ds_kind.specs.WholeSpan.{widened}
 use Rattle.ds_send.proofs.whole.widened.Given as goal
 
 -- the span so far, widened by those to come, is that of all
