@@ -1,12 +1,12 @@
 -- How a run ends, for each status.
-use Rattle.std.specs.Prelude.{◌≡◌, ◌≢◌, ◌≤◌, ◌<◌, ◌⊎◌, ℕ, Bool, true, false, List, [], ◌∷◌, codes, length, take, Option, Some, None, Ok, Err}
+use Rattle.std.specs.Prelude.{◌≡◌, ◌≢◌, ◌≤◌, ◌+◌, ◌⊎◌, ℕ, Bool, true, false, List, [], ◌∷◌, codes, length, take, Option, Some, None, Ok, Err, refl}
 use Rattle.std.specs.Io.KnownBytes.{Consumes, Appends, IsAtEnd}
-use Rattle.ds_io.specs.Counts.{Rose}
+use Rattle.ds_base.specs.Counts.{Rose}
 use Rattle.ds_rule.specs.declared.journal.Entry.{Entry}
 use Rattle.ds_script.specs.declared.line.Numbered.{Numbered}
 use Rattle.ds_script.specs.Journals.{AllGathered, LegalJournal}
 use Rattle.ds_script.specs.PlainRuns.{PlainRun}
-use Rattle.ds_script.specs.Script.{Fault, script_of}
+use Rattle.ds_script.specs.Script.{Fault, most_bytes, script_of}
 use Rattle.ds_text.specs.Log.{text_of}
 use Rattle.ds_replay.specs.Built.{first_unbuilt}
 use Rattle.ds_replay.specs.Causes.{AllCaused}
@@ -63,9 +63,13 @@ pub record IsDone (words : List (List ℕ)) (s : Took) (text : List ℕ) : Type 
   pub built : first_unbuilt script ≡ None
   pub replay : IsReplay script text
 
--- the bytes were all that the source had, or already too many
+-- so many bytes were all that the source had; or they were one more than a script may have, and no more was taken
+abbrev pub IsAllOrOneMore : Option (List ℕ) → ℕ → Type 0
+IsAllOrOneMore left_after n = (IsAtEnd left_after × (n ≤ most_bytes)) ⊎ (n ≡ most_bytes + 1)
+
+-- the bytes were enough to say what fault they have
 abbrev pub IsEnough : Took → List ℕ → Type 0
-IsEnough s bytes = Consumes s.left s.left_after bytes × (IsAtEnd s.left_after ⊎ (4194304 < length bytes)) × (s.faults_after ≡ s.faults)
+IsEnough s bytes = Consumes s.left s.left_after bytes × IsAllOrOneMore s.left_after (length bytes) × (s.faults_after ≡ s.faults)
 
 -- why the bytes are refused: the fault that they have; or they are a script whose first line of a form that isn't built
 -- is this
@@ -87,7 +91,7 @@ abbrev pub Answered : Status → List (List ℕ) → Took → List ℕ → Type 
 Answered Done words s text = IsDone words s text
 Answered BadScript words s text = IsBad words s text
 Answered Usage words s text = (words ≢ command) × (text ≡ usage_text)
-Answered ReadFault words s text = Rose s.faults s.faults_after × (text ≡ [])
+Answered ReadFault words s text = (words ≡ command) × Rose s.faults s.faults_after × (text ≡ [])
 Answered WriteFault words s text = ⊥
 Answered Memory words s text = text ≡ []
 
@@ -99,8 +103,18 @@ PutWhole k text = Appends k.held k.held_after text × (k.faults_after ≡ k.faul
 abbrev pub PutFront : Put → List ℕ → Type 0
 PutFront k text = ((n : ℕ) × (n ≤ length text) × Appends k.held k.held_after (take n text)) × Rose k.faults k.faults_after
 
+-- the ends that put a text: a fault of the sink may come in place of these alone
+abbrev pub puts_text : Status → Bool
+puts_text Done = true
+puts_text BadScript = true
+puts_text Usage = true
+puts_text ReadFault = false
+puts_text WriteFault = false
+puts_text Memory = false
+
+-- how a run ended, with what it took and put; a fault of the sink came in place of an end that puts a text
 abbrev pub Ends : Status → List (List ℕ) → Took → Put → Type 0
-Ends WriteFault words s k = (status : Status) × (text : List ℕ) × Answered status words s text × PutFront k text
+Ends WriteFault words s k = (status : Status) × (puts_text status ≡ true) × (text : List ℕ) × Answered status words s text × PutFront k text
 Ends status words s k = (text : List ℕ) × Answered status words s text × PutWhole k text
 
 -- what is put for a script that was read: the text of its replay, the fault of a line that isn't built, or nothing
@@ -111,3 +125,13 @@ Replayed script Memory text = text ≡ []
 Replayed script Usage text = ⊥
 Replayed script ReadFault text = ⊥
 Replayed script WriteFault text = ⊥
+
+-- a fault of the sink comes in place of the log, and never of a fault of the source
+in_place_of_the_log : puts_text Done ≡ true
+in_place_of_the_log = refl
+
+not_of_a_fault_of_the_source : puts_text ReadFault ≡ false
+not_of_a_fault_of_the_source = refl
+
+nor_of_want_of_memory : puts_text Memory ≡ false
+nor_of_want_of_memory = refl

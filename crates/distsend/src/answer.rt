@@ -1,5 +1,5 @@
 //! The top call: from words and bytes to a status and bytes.
-ghost use Rattle.std.specs.Prelude.{◌≡◌, [], map, string_bytes, None, IsTrue, ◌↔◌, IfOk, MatchResult};
+ghost use Rattle.std.specs.Prelude.{◌≡◌, ◌≢◌, [], map, string_bytes, None, IsTrue, ◌↔◌, IfOk, MatchResult};
 ghost use Rattle.ds_replay.specs.Built.{first_unbuilt};
 ghost use Rattle.distsend.specs.Ends.{Answered, Ends, IsReplay, Replayed, command};
 
@@ -13,16 +13,18 @@ use ds_text::text;
 use std::alloc::{AllocError, Global};
 
 /// Replays the script that the source gives, as the words say, and puts what it prints on the sink.
-/// All of it is made before anything is put.
+/// All of it is made before anything is put. Where the words are not the command, nothing is taken
+/// from the source. At most one byte more than a script may have is taken before it is refused.
 pub fn run<S: Source, K: Sink>(
     alloc: Global,
     words: &[String],
     script: &mut S,
     out: &mut K,
 ) -> Status
-    ensures { Ends result (map string_bytes words.now)
+    ensures ends { Ends result (map string_bytes words.now)
         (record { left = S.left script.old; left_after = S.left script.new; faults = S.faults script.old; faults_after = S.faults script.new })
         (record { held = K.held out.old; held_after = K.held out.new; faults = K.faults out.old; faults_after = K.faults out.new }) }
+    ensures untouched { map string_bytes words.now ≢ command → script.new ≡ script.old }
 {
     let (status, text) = answer(alloc, words, script);
     match put_all(out, text.as_str().as_bytes()) {
@@ -33,9 +35,10 @@ pub fn run<S: Source, K: Sink>(
 
 /// The status, and what is put for it.
 fn answer<S: Source>(alloc: Global, words: &[String], script: &mut S) -> (Status, Text)
-    ensures { Answered result.0 (map string_bytes words.now)
+    ensures answered { Answered result.0 (map string_bytes words.now)
         (record { left = S.left script.old; left_after = S.left script.new; faults = S.faults script.old; faults_after = S.faults script.new })
         result.1 }
+    ensures untouched { map string_bytes words.now ≢ command → script.new ≡ script.old }
 {
     if !is_command(words) {
         return or_memory(alloc, Status::Usage, usage_text(alloc));

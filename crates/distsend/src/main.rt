@@ -2,8 +2,6 @@
 #![tactic(auto)]
 
 mod answer;
-#[cfg(test)]
-mod fault_tests;
 mod status;
 #[cfg(test)]
 mod tests;

@@ -86,7 +86,7 @@ fn room_for_ten_bytes(rt: HostRuntime) -> Result<(), Fail> {
 }
 
 /// The status of a run with this word over this source, and what the sink holds then.
-pub fn answers(alloc: Global, word: &str, bytes: &[u8]) -> Result<(Status, Vec<u8>), AllocError> {
+fn answers(alloc: Global, word: &str, bytes: &[u8]) -> Result<(Status, Vec<u8>), AllocError> {
     let mut source = SureSource::new(bytes.to_vec(alloc)?);
     let mut sink = MemSink::new(alloc, 4096, numbers(alloc, 0)?)?;
     let status = run(alloc, &words(alloc, word)?, &mut source, &mut sink);

@@ -1,3 +1,4 @@
+//! Sources and sinks over the readers and writers of std.
 ghost use Rattle.std.specs.Prelude.{◌≡◌};
 
 use crate::stream::{Failed, Sink, Source};

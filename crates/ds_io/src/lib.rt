@@ -20,6 +20,3 @@ pub use memory_sink::MemSink;
 pub use memory_source::{MemSource, SureSource};
 pub use stream::{Failed, Sink, Source};
 pub use whole::{LIMIT, ReadError, put_all, read_all};
-
-#[cfg(test)]
-mod tests;

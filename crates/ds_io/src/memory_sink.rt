@@ -1,3 +1,4 @@
+//! A sink in memory.
 ghost use Rattle.std.specs.Prelude.{◌≡◌, ◌+◌, ◌-◌, ◌<◌, ◌≤◌, ◌↔◌, ◌⊎◌, ◌++◌, [], min, Some, IfOk, IsErr, IsTrue, OnErr, MatchResult, length, take};
 ghost use Rattle.std.specs.Io.KnownBytes.{WriteAppends};
 ghost use Rattle.ds_io.specs.Counts.{Counts, raised};

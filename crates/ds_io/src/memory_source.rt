@@ -1,3 +1,4 @@
+//! Sources in memory.
 ghost use Rattle.std.specs.Prelude.{◌≡◌, ◌<◌, ◌≤◌, ◌↔◌, ◌++◌, min, Some, Ok, IfOk, IsErr, IsTrue, OnErr, MatchResult, length, take, drop};
 ghost use Rattle.std.specs.Io.KnownBytes.{ReadConsumes};
 ghost use Rattle.ds_io.specs.Counts.{Counts, raised};

@@ -1,6 +1,9 @@
+//! Whole sources, and whole texts on a sink.
 ghost use Rattle.std.specs.Prelude.{◌≡◌, ℕ, List, ◌+◌, ◌<◌, ◌≤◌, IfOk, OnOk, OnErr, IsErrOf, alloc_error, length, take, vec_len};
 ghost use Rattle.std.specs.Io.KnownBytes.{Consumes, Appends, IsAtEnd};
-ghost use Rattle.ds_io.specs.Counts.{Counts, Rose};
+ghost use Rattle.ds_base.specs.Counts.{Rose};
+ghost use Rattle.ds_io.specs.Counts.{Counts};
+ghost use Rattle.ds_io.specs.Ends.{TookOneMore};
 ghost use Rattle.ds_io.specs.declared.whole.ReadError.TheVariants.{Fault, Memory};
 
 use crate::stream::{Failed, Sink, Source};
@@ -53,7 +56,7 @@ pub fn read_all<S: Source>(alloc: Global, source: &mut S) -> Result<Vec<u8>, Rea
     ensures few { IfOk result (λ v. length v.items ≤ LIMIT) }
     ensures counts { OnOk result (S.faults source.new ≡ S.faults source.old) }
     ensures fault { IsErrOf result ReadError.Fault → Rose (S.faults source.old) (S.faults source.new) }
-    ensures too_long { IsErrOf result ReadError.TooLong → (bytes : List ℕ) × (length bytes ≡ LIMIT + 1) × Consumes (S.left source.old) (S.left source.new) bytes × (S.faults source.new ≡ S.faults source.old) }
+    ensures too_long { IsErrOf result ReadError.TooLong → TookOneMore LIMIT (S.left source.old) (S.left source.new) × (S.faults source.new ≡ S.faults source.old) }
     ensures memory { IsErrOf result (ReadError.Memory alloc_error) → S.faults source.new ≡ S.faults source.old }
     ensures lost { OnErr result ((bytes : List ℕ) × Consumes (S.left source.old) (S.left source.new) bytes) }
 {
@@ -77,9 +80,11 @@ fn new_buffer(alloc: Global) -> Result<Vec<u8>, AllocError>
     vec![in alloc; 0u8; PIECE]
 }
 
-/// Puts all of the bytes on a sink, or a first part of them where it fails.
+/// Puts all of the bytes on a sink, or a first part of them where it fails, which it never does
+/// where there are none.
 pub fn put_all<K: Sink>(sink: &mut K, bytes: &[u8]) -> Result<(), Failed>
     ensures ok { OnOk result (Appends (K.held sink.old) (K.held sink.new) bytes.now) }
+    ensures some { OnErr result (0 < length bytes.now) }
     ensures prefix { OnErr result ((n : ℕ) × (n ≤ length bytes.now) × Appends (K.held sink.old) (K.held sink.new) (take n bytes.now)) }
     ensures counts { Counts result (K.faults sink.old) (K.faults sink.new) }
 {
