@@ -1,0 +1,14 @@
+pub mod Chaining
+pub mod Clipping
+pub mod Covering
+pub mod Cutting
+pub mod Exact
+pub mod Examples
+pub mod InOrder
+pub mod Lessening
+pub mod Limiting
+pub mod Measuring
+pub mod Moving
+pub mod Proper
+pub mod Sharing
+pub mod Tests

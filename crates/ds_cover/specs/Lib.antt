@@ -1,0 +1,9 @@
+pub mod Arrivals
+pub mod Chains
+pub mod Clips
+pub mod Coverage
+pub mod Cuts
+pub mod Items
+pub mod Laws
+pub mod Limits
+pub mod Measures

@@ -1,0 +1,63 @@
+//! The laws of coverage by blocks.
+ghost use Rattle.ds_cover.specs.Laws.{AllInOrder, CoversAll, CutsCovered, CutsProper, DropsEmpty, ExactlyNone, KeepsLeft, RestHasLess, SpansProper, StaysCovered, StaySpans, TakenCovers};
+
+/// The order of the blocks doesn't matter.
+pub fn stays_covered()
+    ensures { StaysCovered }
+{}
+
+/// What the blocks do at a key, put together, is what the items do there.
+pub fn covers_all()
+    ensures { CoversAll }
+{}
+
+/// A block without items may go.
+pub fn drops_empty()
+    ensures { DropsEmpty }
+{}
+
+/// A block cut at a span that contains its seek key, forward or in reverse, is two blocks.
+pub fn cuts_covered()
+    ensures { CutsCovered }
+{}
+
+/// Parts one after another: what all blocks do at a key, in order, is what the parts do there.
+pub fn all_in_order()
+    ensures { AllInOrder }
+{}
+
+/// Nothing is cut exactly where no key of the span is held.
+pub fn exactly_none()
+    ensures { ExactlyNone }
+{}
+
+/// What is left in a block is what is left in its cut and its rest together.
+pub fn keeps_left()
+    ensures { KeepsLeft }
+{}
+
+/// A cut at a span that contains the seek key takes something: its rest has less than the block.
+pub fn rest_has_less()
+    ensures { RestHasLess }
+{}
+
+/// What is cut of spans of keys, and what is left of them, are spans of keys.
+pub fn stay_spans()
+    ensures { StaySpans }
+{}
+
+/// Whatever is cut of proper items is proper.
+pub fn cuts_proper()
+    ensures { CutsProper }
+{}
+
+/// Items whose spans are spans of keys are proper.
+pub fn spans_proper()
+    ensures { SpansProper }
+{}
+
+/// Under a limit the accepted items, without their resume spans, do at each key what the part's
+/// items do there without theirs.
+pub fn taken_covers()
+    ensures { TakenCovers }
+{}

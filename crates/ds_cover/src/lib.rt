@@ -1,0 +1,15 @@
+//! How the work of a part stands in blocks, and what may be concluded of it.
+//!
+//! A part's items are cut, sent, refused and cut again, in any order. What is accepted and what is
+//! left stands in blocks of items, and at each key one block has all that the part does there. The
+//! functions here do nothing: each has a law as its clause, for the proofs above.
+#![tactic(auto)]
+
+mod blocks;
+mod chains;
+
+pub use blocks::{
+    all_in_order, covers_all, cuts_covered, cuts_proper, drops_empty, exactly_none, keeps_left,
+    rest_has_less, spans_proper, stay_spans, stays_covered, taken_covers,
+};
+pub use chains::{chains_once, covered_chains, joins_the_same, once_chains, orders_the_same};
