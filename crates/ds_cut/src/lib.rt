@@ -1,0 +1,13 @@
+//! Cuts the requests of a part to the ranges that they are sent to.
+//!
+//! A [`Cutter`] holds what is still to be sent of a part. It tells at which key to look for a
+//! range, and cuts off what lies in the range that was found there. At each key, one of the piece
+//! and the rest has all that was left there, and the other nothing.
+#![tactic(auto)]
+
+mod clip;
+mod cutter;
+mod seek;
+mod spans;
+
+pub use cutter::Cutter;
