@@ -1,0 +1,10 @@
+pub mod Bodies
+pub mod Changing
+pub mod Coming
+pub mod Examples
+pub mod Filling
+pub mod Joining
+pub mod Orders
+pub mod Placing
+pub mod Ready
+pub mod Receiving

@@ -1,0 +1,5 @@
+pub mod Gathered
+pub mod Gathering
+pub mod Laws
+pub mod Places
+pub mod Roomy
