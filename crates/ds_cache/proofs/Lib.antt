@@ -1,0 +1,10 @@
+pub mod Added
+pub mod Examples
+pub mod LawFacts
+pub mod Leases
+pub mod Outdates
+pub mod Placed
+pub mod Rows
+pub mod Serials
+pub mod Sound
+pub mod Stands
