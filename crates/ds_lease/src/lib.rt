@@ -1,0 +1,6 @@
+//! In which order the replicas of a range are tried.
+#![tactic(auto)]
+
+mod order;
+
+pub use order::Order;
