@@ -16,7 +16,7 @@ use std::alloc::Global;
 use std::test::Fail;
 
 // Transaction 1 at stamp 10.
-pub(crate) fn at(seq: u32) -> At {
+fn at(seq: u32) -> At {
     At {
         stamp: Stamp(10),
         txn: TxnNo(1),

@@ -1,5 +1,5 @@
 //! Each public call once, and the edges of a key.
-use crate::{BadSpan, Copies, Key, KeyFault, Keys, Span, Text, Value};
+use ds_base::{BadSpan, Copies, Key, KeyFault, Keys, Span, Text, Value};
 use std::alloc::Global;
 use std::test::Fail;
 

@@ -1,4 +1,5 @@
-use crate::{
+//! Sources and sinks in memory, and over readers and writers.
+use ds_io::{
     Failed, LIMIT, MemSink, MemSource, ReadError, ReadSource, Sink, Source, SureSource, WriteSink,
     put_all, read_all,
 };
@@ -35,16 +36,27 @@ fn long_text(alloc: Global, len: usize) -> Result<Vec<u8>, AllocError> {
     vec![in alloc; b'x'; len]
 }
 
+/// How many bytes are read of so many, or none where they are too many.
+fn read_of(alloc: Global, len: usize) -> Result<Option<usize>, Fail> {
+    let mut source = SureSource::new(long_text(alloc, len)?);
+    match read_all(alloc, &mut source) {
+        Ok(bytes) => Ok(Some(bytes.len())),
+        Err(ReadError::TooLong) => Ok(None),
+        Err(_) => Err("another error".into()),
+    }
+}
+
 #[test]
-fn reads_what_is_left(rt: HostRuntime) -> Result<(), Fail> {
+fn reads_up_to_the_limit(rt: HostRuntime) -> Result<(), Fail> {
+    for (len, want) in [(0, Some(0)), (LIMIT, Some(LIMIT)), (LIMIT + 1, None)] {
+        assert!(rt; read_of(rt.alloc(), len)? == want, "{len}");
+    }
+    Ok(())
+}
+
+#[test]
+fn reads_up_to_a_fault(rt: HostRuntime) -> Result<(), Fail> {
     let alloc = rt.alloc();
-    let nothing = read_all(alloc, &mut SureSource::new(Vec::new(alloc)))?;
-    assert_eq!(rt; nothing.len(), 0);
-    let mut longest = SureSource::new(long_text(alloc, LIMIT)?);
-    assert_eq!(rt; read_all(alloc, &mut longest)?.len(), LIMIT);
-    let mut longer = SureSource::new(long_text(alloc, LIMIT + 1)?);
-    let answer = read_all(alloc, &mut longer);
-    assert!(rt; matches!(&answer, Err(ReadError::TooLong)));
     let mut broken = MemSource::new(b"hello".to_vec(alloc)?, [2u32].to_vec(alloc)?);
     let answer = read_all(alloc, &mut broken);
     assert!(rt; matches!(&answer, Err(ReadError::Fault)));
