@@ -3,6 +3,9 @@
 
 For each sort of script it prints the seconds of processor time and the largest memory at three lengths, so that it can
 be seen that a line costs about the same at the end of a script as at its beginning. Nothing is tested here.
+
+python3 tests/measure.py --cache crates/ds_bench/out/ds_bench times a call of the cache instead, in a small and in a
+large one, and ends with status 1 where the large one takes more than 2.5 times as long.
 """
 
 import json
@@ -13,6 +16,9 @@ import sys
 import tempfile
 
 LENGTHS = [5_000, 10_000, 19_998]
+CACHE_SIZES = [1_000, 65_536]
+CACHE_CALLS = 1_000_000
+CACHE_FACTOR = 2.5
 
 
 def cluster(ranges):
@@ -71,7 +77,28 @@ def measure(command, sort, length):
     return usage.ru_utime + usage.ru_stime, usage.ru_maxrss // 1024, os.waitstatus_to_exitcode(status)
 
 
+def seconds(command):
+    child = subprocess.Popen(command, stdout=subprocess.DEVNULL)
+    _, status, usage = os.wait4(child.pid, 0)
+    if os.waitstatus_to_exitcode(status) != 0:
+        sys.exit(f"{command} failed")
+    return usage.ru_utime + usage.ru_stime
+
+
+def measure_cache(program):
+    """The time of a call: what a million of them take beside the filling of the cache, the least of three."""
+    times = []
+    for size in CACHE_SIZES:
+        took = [min(seconds([program, "cache", str(size), str(calls)]) for _ in range(3)) for calls in [0, CACHE_CALLS]]
+        times.append((took[1] - took[0]) / CACHE_CALLS)
+        print(f"cache of {size:6} entries: {times[-1] * 1e6:5.2f} microseconds a call")
+    print(f"{times[1] / times[0]:.2f} times as long in the larger one, at most {CACHE_FACTOR} is wanted")
+    sys.exit(times[1] > CACHE_FACTOR * times[0])
+
+
 def main():
+    if sys.argv[1] == "--cache":
+        measure_cache(sys.argv[2])
     if sys.argv[1] == "--script":
         print("\n".join(json.dumps(line) for line in SORTS[sys.argv[2]](int(sys.argv[3]))))
         return
