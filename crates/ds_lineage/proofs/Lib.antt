@@ -1,0 +1,4 @@
+pub mod Examples
+pub mod Lasts
+pub mod Spans
+pub mod Walks
