@@ -14,4 +14,6 @@ mod lease_tests;
 #[cfg(test)]
 mod limit_tests;
 #[cfg(test)]
+mod lineage_tests;
+#[cfg(test)]
 mod retry_tests;

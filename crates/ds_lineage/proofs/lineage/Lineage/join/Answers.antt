@@ -1,0 +1,4 @@
+use Rattle.ds_lineage.proofs.lineage.Lineage.join.Goals as goal
+
+pub add-requires : goal.add-requires
+add-requires c = c.requires
