@@ -3,8 +3,8 @@ use Rattle.std.proofs.Common.{◌≡◌, ℕ, true, false, List, [], ◌∷◌, 
 use Rattle.ds_base.specs.Order.{key_lt}
 use Rattle.ds_base.proofs.SmallFacts.{some_same}
 use Rattle.ds_desc.specs.declared.desc.RangeDesc.{RangeDesc}
-use Rattle.ds_lineage.specs.Last.{IsLastAt, Begins, Follows, Joins}
-use Rattle.ds_lineage.proofs.Spans.{begins-first, follows-kept, follows-new, follows-within, joins-neighbours}
+use Rattle.ds_lineage.specs.Last.{IsLastAt, IsNewestAt, Begins, Follows, Joins}
+use Rattle.ds_lineage.proofs.Spans.{begins-first, follows-kept, follows-newest, joins-neighbours, newest-kept, newest-new}
 
 -- the range of this id from one byte up to another, of this generation
 abbrev range : ℕ → ℕ → ℕ → ℕ → RangeDesc
@@ -49,20 +49,27 @@ the_left_part_begins_nothing : Begins (whole ∷ []) left.span → ⊥
 the_left_part_begins_nothing h = let one : whole ∷ [] ≡ [] = h (98 ∷ []) refl in cc
 
 left_follows : Follows (whole ∷ []) left.span 0
-left_follows = follows-within (whole ∷ []) left.span whole.span 0 refl refl (follows-new [] whole)
+left_follows = follows-newest (whole ∷ []) left.span whole 0 refl refl (newest-new [] whole)
 
 right_follows : Follows (whole ∷ left ∷ []) right.span 0
 right_follows =
-    follows-kept (whole ∷ []) right.span 0 left refl
-    (follows-within (whole ∷ []) right.span whole.span 0 refl refl (follows-new [] whole))
+    follows-kept (whole ∷ []) right.span 0 left refl (follows-newest (whole ∷ []) right.span whole 0 refl refl (newest-new [] whole))
 
 -- the left part doesn't contain c
 right_does_not_follow_the_left_part : Follows (whole ∷ left ∷ []) right.span 1 → ⊥
 right_does_not_follow_the_left_part h = let out : false ≡ true = (h (99 ∷ []) refl).0 in cc
 
+-- the left part stays the newest beside the right one
+left_is_the_newest : IsNewestAt split left 1
+left_is_the_newest = newest-kept (whole ∷ left ∷ []) left right 1 refl (newest-new (whole ∷ []) left)
+
+-- at b the left part came after the whole
+the_whole_is_not_the_newest : IsNewestAt (whole ∷ left ∷ []) whole 0 → ⊥
+the_whole_is_not_the_newest h = let one : left ∷ [] ≡ [] = (h.last (98 ∷ []) refl).1 in cc
+
 the_merged_one_joins : Joins split (range 1 97 102 3).span 1 2
 the_merged_one_joins =
-    joins-neighbours split left.span right 1 2 refl refl (follows-kept (whole ∷ left ∷ []) left.span 1 right refl (follows-new (whole ∷ []) left)) (follows-new (whole ∷ left ∷ []) right)
+    joins-neighbours split left right 1 2 refl left_is_the_newest (newest-new (whole ∷ left ∷ []) right)
 
 -- below its start the right part is not the last, nor is the left one from there on
 not_the_other_way_round : Joins split (range 1 97 102 3).span 2 1 → ⊥

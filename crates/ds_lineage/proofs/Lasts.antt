@@ -73,3 +73,13 @@ last-kept (d ∷ ds) k (suc i) e out h = last-kept ds k i e out h
 pub last-new : (ds : List RangeDesc) (k : List ℕ) (e : RangeDesc) → contains Forward k e.span ≡ true → IsLastAt (ds ++ e ∷ []) k (length ds)
 last-new [] k e into = (into, refl)
 last-new (d ∷ ds) k e into = last-new ds k e into
+
+-- each stands where it stood, and the new one behind them
+pub there-kept : (ds : List RangeDesc) (i : ℕ) (d e : RangeDesc) → slice_get ds i ≡ Some d → slice_get (ds ++ e ∷ []) i ≡ Some d
+there-kept [] i d e h = cc
+there-kept (x ∷ ds) zero d e h = h
+there-kept (x ∷ ds) (suc i) d e h = there-kept ds i d e h
+
+pub there-new : (ds : List RangeDesc) (e : RangeDesc) → slice_get (ds ++ e ∷ []) (length ds) ≡ Some e
+there-new [] e = refl
+there-new (x ∷ ds) e = there-new ds e

@@ -1,16 +1,16 @@
 -- What a descriptor comes after, told by whole spans.
-use Rattle.std.proofs.Common.{◌≡◌, ℕ, Bool, true, false, ◌&&◌, List, [], ◌∷◌, ◌++◌, Some, refl, sym, ap, ◌∙◌, subst, length}
-use Rattle.std.specs.List.{slice_get}
+use Rattle.std.proofs.Common.{◌≡◌, ℕ, Bool, true, false, ◌&&◌, List, [], ◌∷◌, ◌++◌, Some, refl, sym, ap, ◌∙◌, subst, length, reverse}
+use Rattle.std.specs.List.{find, slice_get}
 use Rattle.ds_base.specs.Order.{Extent, key_lt, key_le}
 use Rattle.ds_base.specs.declared.value.Dir.TheVariants.{Forward}
 use Rattle.ds_base.proofs.KeyOrder.{key_le_lt-trans}
 use Rattle.ds_base.proofs.OrderedFacts.{le_of_not_lt, le_trans, lt_le_trans}
 use Rattle.ds_base.proofs.SmallFacts.{and_first, and_second, and_both}
 use Rattle.ds_desc.specs.Contains.{contains}
-use Rattle.ds_desc.specs.Descs.{overlap}
+use Rattle.ds_desc.specs.Descs.{containing, overlap}
 use Rattle.ds_desc.specs.declared.desc.RangeDesc.{RangeDesc}
-use Rattle.ds_lineage.specs.Last.{IsLastAt, Begins, Follows, Joins}
-use Rattle.ds_lineage.proofs.Lasts.{last-kept, last-new, none-kept}
+use Rattle.ds_lineage.specs.Last.{IsLastAt, IsNewestAt, Begins, Follows, Joins}
+use Rattle.ds_lineage.proofs.Lasts.{last-found, last-kept, last-new, none-kept, there-kept, there-new}
 
 -- no key is in two spans that don't overlap
 pub apart : (a b : Extent) (k : List ℕ) → overlap a b ≡ false → contains Forward k b ≡ true → contains Forward k a ≡ false
@@ -39,25 +39,38 @@ begins-kept ds s e over h k into = none-kept ds k e (apart e.span s k over into)
 
 -- ---- follows
 
--- a new descriptor is the last at each of its keys
-pub follows-new : (ds : List RangeDesc) (e : RangeDesc) → Follows (ds ++ e ∷ []) e.span (length ds)
-follows-new ds e k into = last-new ds k e into
-
 -- one more descriptor that doesn't overlap the span
 pub follows-kept : (ds : List RangeDesc) (s : Extent) (i : ℕ) (e : RangeDesc) → overlap e.span s ≡ false → Follows ds s i → Follows (ds ++ e ∷ []) s i
 follows-kept ds s i e over h k into = last-kept ds k i e (apart e.span s k over into) (h k into)
 
--- a part of a span
-pub follows-within : (ds : List RangeDesc) (a b : Extent) (i : ℕ) → key_le b.start a.start ≡ true → key_le a.end b.end ≡ true → Follows ds b i → Follows ds a i
-follows-within ds a b i start end h k into = h k (within a b k start end into)
+-- a part of the span of the newest
+pub follows-newest : (ds : List RangeDesc) (s : Extent) (d : RangeDesc) (i : ℕ) → key_le d.span.start s.start ≡ true → key_le s.end d.span.end ≡ true → IsNewestAt ds d i → Follows ds s i
+follows-newest ds s d i start end h k into = h.last k (within s d.span k start end into)
 
 -- ---- joins
 
--- two neighbours, whose own descriptors are the last at their keys
-pub joins-neighbours : (ds : List RangeDesc) (a : Extent) (d : RangeDesc) (left right : ℕ) → slice_get ds right ≡ Some d → a.end ≡ d.span.start → Follows ds a left → Follows ds d.span right → Joins ds (record { start = a.start; end = d.span.end }) left right
-joins-neighbours ds a d left right there meet l r = record {
-  second = d;
-  there = there;
-  below = λ k into low. l k (and_both _ _ (and_first _ _ into) (subst (λ z. key_lt k z ≡ true) (sym meet) low));
-  from = λ k into high. r k (and_both _ _ (le_of_not_lt k d.span.start high) (and_second (key_le a.start k) _ into));
+-- the newest of two neighbours
+pub joins-neighbours : (ds : List RangeDesc) (d e : RangeDesc) (left right : ℕ) → d.span.end ≡ e.span.start → IsNewestAt ds d left → IsNewestAt ds e right → Joins ds (record { start = d.span.start; end = e.span.end }) left right
+joins-neighbours ds d e left right meet l r = record {
+  second = e;
+  there = r.there;
+  below = λ k into low. l.last k (and_both _ _ (and_first _ _ into) (subst (λ z. key_lt k z ≡ true) (sym meet) low));
+  from = λ k into high. r.last k (and_both _ _ (le_of_not_lt k e.span.start high) (and_second (key_le d.span.start k) _ into));
 }
+
+-- ---- the newest
+
+-- a new descriptor is the newest
+pub newest-new : (ds : List RangeDesc) (e : RangeDesc) → IsNewestAt (ds ++ e ∷ []) e (length ds)
+newest-new ds e = record { there = there-new ds e; last = λ k into. last-new ds k e into }
+
+-- it stays so beside one that it doesn't overlap
+pub newest-kept : (ds : List RangeDesc) (d e : RangeDesc) (i : ℕ) → overlap e.span d.span ≡ false → IsNewestAt ds d i → IsNewestAt (ds ++ e ∷ []) d i
+newest-kept ds d e i over h = record {
+  there = there-kept ds i d e h.there;
+  last = follows-kept ds d.span i e over h.last;
+}
+
+-- it is the last of those that contain one of its keys
+pub newest-found : (ds : List RangeDesc) (d : RangeDesc) (i : ℕ) (k : List ℕ) → IsNewestAt ds d i → contains Forward k d.span ≡ true → find (λ _. true) (reverse (containing k ds)) ≡ Some d
+newest-found ds d i k h into = last-found ds k i d h.there (h.last k into)

@@ -29,3 +29,10 @@ pub record Joins (ds : List RangeDesc) (s : Extent) (left right : ℕ) : Type 0 
   pub there : slice_get ds right ≡ Some second
   pub below : (k : List ℕ) → contains Forward k s ≡ true → key_lt k second.span.start ≡ true → IsLastAt ds k left
   pub from : (k : List ℕ) → contains Forward k s ≡ true → key_lt k second.span.start ≡ false → IsLastAt ds k right
+
+-- ---- the newest
+
+-- the descriptor stands at this place, and at each of its keys it is the last
+pub record IsNewestAt (ds : List RangeDesc) (d : RangeDesc) (i : ℕ) : Type 0 where
+  pub there : slice_get ds i ≡ Some d
+  pub last : Follows ds d.span i

@@ -68,12 +68,12 @@ impl Lineage {
     }
 
     /// Adds a descriptor whose keys are in none so far. Want of memory changes nothing.
-    pub fn begin(&mut self, alloc: Global, desc: RangeDesc) -> Result<(), AllocError>
+    pub fn begin(&mut self, _alloc: Global, desc: RangeDesc) -> Result<(), AllocError>
         requires { Begins self.old desc.span }
         ensures ok { OnOk result (self.new ≡ self.old ++ desc ∷ []) }
         ensures err { OnErr result (self.new ≡ self.old) }
     {
-        self.add(alloc, desc, After::Nothing)
+        self.add(desc, After::Nothing)
     }
 
     /// Adds a descriptor after one: at each of its keys the one at the place `before` is the last
@@ -81,7 +81,7 @@ impl Lineage {
     /// nothing.
     pub fn follow(
         &mut self,
-        alloc: Global,
+        _alloc: Global,
         desc: RangeDesc,
         before: usize,
     ) -> Result<(), AllocError>
@@ -89,7 +89,7 @@ impl Lineage {
         ensures ok { OnOk result (self.new ≡ self.old ++ desc ∷ []) }
         ensures err { OnErr result (self.new ≡ self.old) }
     {
-        self.add(alloc, desc, After::One(before))
+        self.add(desc, After::One(before))
     }
 
     /// Adds a descriptor after two: at each of its keys below the start of the one at the place
@@ -97,7 +97,7 @@ impl Lineage {
     /// after a merge. Want of memory changes nothing.
     pub fn join(
         &mut self,
-        alloc: Global,
+        _alloc: Global,
         desc: RangeDesc,
         left: usize,
         right: usize,
@@ -106,7 +106,7 @@ impl Lineage {
         ensures ok { OnOk result (self.new ≡ self.old ++ desc ∷ []) }
         ensures err { OnErr result (self.new ≡ self.old) }
     {
-        self.add(alloc, desc, After::Two { left, right })
+        self.add(desc, After::Two { left, right })
     }
 
     /// Of the descriptors that contain the key, the one that stands `b` before the last, which is
@@ -145,7 +145,7 @@ impl Lineage {
     }
 
     /// Adds a descriptor with what it comes after.
-    fn add(&mut self, _alloc: Global, desc: RangeDesc, after: After) -> Result<(), AllocError>
+    fn add(&mut self, desc: RangeDesc, after: After) -> Result<(), AllocError>
         requires { ComesAfter self.old desc.span after }
         ensures ok { OnOk result (self.new ≡ self.old ++ desc ∷ []) }
         ensures err { OnErr result (self.new ≡ self.old) }
