@@ -6,5 +6,6 @@ pub mod Filling
 pub mod Joining
 pub mod Orders
 pub mod Placing
+pub mod Ranking
 pub mod Ready
 pub mod Receiving

@@ -2,6 +2,7 @@
 #![tactic(auto)]
 
 mod arrival;
+mod came;
 mod gather;
 mod laws;
 mod place;
