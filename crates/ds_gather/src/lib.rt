@@ -11,4 +11,4 @@ mod room;
 
 pub use arrival::{Arrival, Wanted};
 pub use gather::Gather;
-pub use laws::{bodies_joined, order_free};
+pub use laws::{bodies_joined, keys_in_order, order_free, rows_in_order};
