@@ -4,6 +4,7 @@ pub mod Covering
 pub mod Cutting
 pub mod Exact
 pub mod Examples
+pub mod ExamplesOfItems
 pub mod InOrder
 pub mod Lessening
 pub mod Limiting
@@ -12,3 +13,4 @@ pub mod Moving
 pub mod Proper
 pub mod Sharing
 pub mod Tests
+pub mod Tracing

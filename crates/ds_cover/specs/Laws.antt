@@ -8,9 +8,10 @@ use Rattle.ds_desc.specs.Contains.{contains}
 use Rattle.ds_kind.specs.declared.batch.Item.{Item}
 use Rattle.ds_cover.specs.Coverage.{positions_at, Covered, AllCovered}
 use Rattle.ds_cover.specs.Cuts.{cut_by, cut_items, rest_items, seek_key}
-use Rattle.ds_cover.specs.Items.{AreProper}
+use Rattle.ds_cover.specs.Items.{AreProper, IsOneOf, PositionsRise}
 use Rattle.ds_cover.specs.Limits.{cut_each, KeepsTaken, NoneTaken}
 use Rattle.ds_cover.specs.Measures.{left_in, IsSpan, AllSpans}
+use Rattle.ds_cover.specs.Origins.{IsCut, CutsOf}
 
 abbrev pub joined : List (List Item) → List Item
 joined blocks = flat_map (λ b. b) blocks
@@ -32,6 +33,24 @@ abbrev pub CutsCovered : Type 0
 CutsCovered =
     (d : Dir) (span : Extent) (s : List ℕ) (items block : List Item) (xs ys : List (List Item)) → seek_key d block ≡ Some s → contains d s span ≡ true
     → Covered items (xs ++ block ∷ ys) → Covered items (xs ++ cut_items span block ∷ rest_items d span block ∷ ys)
+
+-- items are cuts of themselves
+abbrev pub CutsOfAll : Type 0
+CutsOfAll = (items : List Item) → CutsOf items items
+
+-- what is cut of a block of cuts of items, and what is left of it, are cuts of the items again
+abbrev pub StayCuts : Type 0
+StayCuts = (d : Dir) (span : Extent) (items block : List Item) → CutsOf items block → CutsOf items (cut_items span block) × CutsOf items (rest_items d span block)
+
+-- each item of a block of cuts is a cut of one of the items
+abbrev pub CutsKnown : Type 0
+CutsKnown = (items block : List Item) → CutsOf items block → (c : Item) → IsOneOf c block → (i : Item) × IsOneOf i items × IsCut i c
+
+-- where positions rise, it is a cut of the item at its position
+abbrev pub CutsAtPositions : Type 0
+CutsAtPositions =
+    (items block : List Item) → PositionsRise items → CutsOf items block → (c : Item) → IsOneOf c block
+    → (i : Item) → IsOneOf i items → i.pos ≡ c.pos → IsCut i c
 
 -- what all parts' blocks do at a key, in order, is what the parts do there, in order
 abbrev pub AllInOrder : Type 0

@@ -7,3 +7,4 @@ pub mod Items
 pub mod Laws
 pub mod Limits
 pub mod Measures
+pub mod Origins

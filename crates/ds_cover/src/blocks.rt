@@ -1,5 +1,5 @@
 //! The laws of coverage by blocks.
-ghost use Rattle.ds_cover.specs.Laws.{AllInOrder, CoversAll, CutsCovered, CutsProper, DropsEmpty, ExactlyNone, KeepsLeft, RestHasLess, SpansProper, StaysCovered, StaySpans, TakenCovers};
+ghost use Rattle.ds_cover.specs.Laws.{AllInOrder, CoversAll, CutsAtPositions, CutsCovered, CutsKnown, CutsOfAll, CutsProper, DropsEmpty, ExactlyNone, KeepsLeft, RestHasLess, SpansProper, StayCuts, StaysCovered, StaySpans, TakenCovers};
 
 /// The order of the blocks doesn't matter.
 pub fn stays_covered()
@@ -19,6 +19,27 @@ pub fn drops_empty()
 /// A block cut at a span that contains its seek key, forward or in reverse, is two blocks.
 pub fn cuts_covered()
     ensures { CutsCovered }
+{}
+
+/// A part's items are cuts of themselves, so a part begins as one block of cuts.
+pub fn cuts_of_all()
+    ensures { CutsOfAll }
+{}
+
+/// What is cut of a block of cuts, and what is left of it, are cuts of the part's items again: each
+/// with the position, the number and the request of its item, cut to a part of its span.
+pub fn stay_cuts()
+    ensures { StayCuts }
+{}
+
+/// Each item of a block of cuts is a cut of one of the part's items.
+pub fn cuts_known()
+    ensures { CutsKnown }
+{}
+
+/// Where positions rise, each item of a block of cuts is a cut of the item at its position.
+pub fn cuts_at_positions()
+    ensures { CutsAtPositions }
 {}
 
 /// Parts one after another: what all blocks do at a key, in order, is what the parts do there.

@@ -9,7 +9,8 @@ mod blocks;
 mod chains;
 
 pub use blocks::{
-    all_in_order, covers_all, cuts_covered, cuts_proper, drops_empty, exactly_none, keeps_left,
-    rest_has_less, spans_proper, stay_spans, stays_covered, taken_covers,
+    all_in_order, covers_all, cuts_at_positions, cuts_covered, cuts_known, cuts_of_all,
+    cuts_proper, drops_empty, exactly_none, keeps_left, rest_has_less, spans_proper, stay_cuts,
+    stay_spans, stays_covered, taken_covers,
 };
 pub use chains::{chains_once, covered_chains, joins_the_same, once_chains, orders_the_same};

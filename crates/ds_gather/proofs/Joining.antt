@@ -55,11 +55,11 @@ count_reverse f (x ∷ xs) =
     sum : (a b c d : ℕ) → a ≡ b → d ≡ c + b → a + c ≡ d
     sum a b c d p q = omega (arith, p, q)
 
-rows_all : (xs : List Arrival) → all_rows xs ≡ all_of (λ a. rows_in a.reply.body) xs
+pub rows_all : (xs : List Arrival) → all_rows xs ≡ all_of (λ a. rows_in a.reply.body) xs
 rows_all [] = refl
 rows_all (x ∷ xs) = ap (λ z. rows_in x.reply.body ++ z) (rows_all xs)
 
-keys_all : (xs : List Arrival) → all_keys xs ≡ all_of (λ a. keys_in a.reply.body) xs
+pub keys_all : (xs : List Arrival) → all_keys xs ≡ all_of (λ a. keys_in a.reply.body) xs
 keys_all [] = refl
 keys_all (x ∷ xs) = ap (λ z. keys_in x.reply.body ++ z) (keys_all xs)
 

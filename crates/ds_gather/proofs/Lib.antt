@@ -4,7 +4,9 @@ pub mod Coming
 pub mod Examples
 pub mod Filling
 pub mod Joining
+pub mod KeyOrder
 pub mod Orders
 pub mod Placing
+pub mod Ranking
 pub mod Ready
 pub mod Receiving

@@ -1,19 +1,11 @@
--- Where an arrival is put, and at which place.
+-- At which place an arrival is put.
 use Rattle.std.proofs.Common.{◌≡◌, ℕ, zero, suc, ◌+◌, ◌≤◌, ◌<◌, ◌==◌, Bool, true, false, cond, List, [], ◌∷◌, map, length, get_or, refl, sym, ap, ◌∙◌, subst, arith, nat_lt, eq-eqb, ne_eqb}
-use Rattle.std.specs.List.{prefix_len, insert}
+use Rattle.std.specs.List.{prefix_len}
 use Rattle.std.specs.List.Sorted.{IsPartitionPoint, IsPartitionedBy}
 use Rattle.std.proofs.Math.ListN.{set}
 use Rattle.std.proofs.lemmas.Bool.Decides.{nat_tests}
 use Rattle.std.proofs.lemmas.List.Sums.{prefix_len_is}
-use Rattle.ds_base.specs.Order.{key_lt, key_le}
-use Rattle.ds_base.specs.Ordered.{AllFrom}
-use Rattle.ds_base.proofs.OrderedFacts.{le_of_not_lt, le_trans, not_lt_of_le}
-use Rattle.ds_kind.specs.Bodies.{put_in_order}
-use Rattle.ds_cover.specs.Chains.{Sorts}
-use Rattle.ds_gather.specs.Gathered.{start_of}
-use Rattle.ds_gather.specs.Places.{AllAfter, NoneAt, Rises, wanted_in, change_at, handed}
-use Rattle.ds_gather.specs.Roomy.{Roomy}
-use Rattle.ds_gather.specs.declared.arrival.Arrival.{Arrival}
+use Rattle.ds_gather.specs.Places.{AllAfter, NoneAt, Rises, wanted_in, change_at}
 use Rattle.ds_gather.specs.declared.place.Place.{Place}
 
 -- a test that fails on all that follow one on which it fails
@@ -50,28 +42,8 @@ pub point_is_prefix : {X : Type 0} (p : X → Bool) (xs : List X) (i : ℕ) → 
 point_is_prefix p [] i within point = let none : i ≡ 0 = omega (arith, within) in none
 point_is_prefix p (x ∷ xs) i within point = sym (prefix_len_is p (x ∷ xs) i x within (λ k l. point.0 k x (omega arith) l) (λ l. point.1 i x (omega arith) l))
 
--- keys
-
-from_none : {X : Type 0} (key : X → List ℕ) (k m : List ℕ) (xs : List X) → key_le k m ≡ true → AllFrom key m xs → NonePass (λ x. key_lt (key x) k) xs
-from_none key k m [] le all = tt
-from_none key k m (x ∷ xs) le all = (not_lt_of_le k (key x) (le_trans k m (key x) le all.0), from_none key k m xs le all.1)
-
-pub sorted_parts : {X : Type 0} (key : X → List ℕ) (k : List ℕ) (xs : List X) → Sorts key xs → Parts (λ x. key_lt (key x) k) xs
-sorted_parts key k [] s = tt
-sorted_parts key k (x ∷ xs) s = (λ e. from_none key k (key x) xs (le_of_not_lt (key x) k e) s.0, sorted_parts key k xs s.1)
-
 one_more : (n : ℕ) → 1 + n ≡ suc n
 one_more n = omega arith
-
-pub insert_is_put : {X : Type 0} (key : X → List ℕ) (x : X) (xs : List X) → insert xs (prefix_len (λ y. key_lt (key y) (key x)) xs) x ≡ put_in_order key x xs
-insert_is_put key x [] = refl
-insert_is_put key x (y ∷ ys) =
-    elim (key_lt (key y) (key x)) as (λ t. insert (y ∷ ys) (cond t (1 + prefix_len (λ y. key_lt (key y) (key x)) ys) 0) x ≡ cond t (y ∷ put_in_order key x ys) (x ∷ y ∷ ys)) [
-      | true ↦
-          ap (λ n. insert (y ∷ ys) n x) (one_more (prefix_len (λ y. key_lt (key y) (key x)) ys))
-          ∙ ap (λ zs. y ∷ zs) (insert_is_put key x ys)
-      | false ↦ refl
-    ]
 
 -- positions
 
@@ -145,13 +117,3 @@ none_found n (p ∷ ps) i r at none =
           let apart : p.wanted.pos ≡ n → ⊥ = subst (λ k. ((d : Place) → k < length (p ∷ ps) → (get_or (p ∷ ps) k d).wanted.pos ≡ n → ⊥) → p.wanted.pos ≡ n → ⊥) (sym at) (λ no h. no p (omega arith) h) none in
           (ne_eqb p.wanted.pos n apart, none_after n p.wanted.pos ps (at_least n p.wanted.pos e) r.0)
     ] refl at
-
-abbrev put_place : Place → Roomy Arrival → Place
-put_place p r = record { wanted = p.wanted; runs = r; rows = p.rows; keys = p.keys }
-
-abbrev sized : Place → List Arrival → Roomy Arrival
-sized p xs = record { items = xs; size = p.runs.size }
-
-pub handed_is : (a : Arrival) (p : Place) (xs : List Arrival) (i : ℕ) (r : Roomy Arrival) → xs ≡ p.runs.items → i ≡ prefix_len (λ b. key_lt (start_of b) (start_of a)) xs → r ≡ record { items = insert p.runs.items i a; size = p.runs.size } → ◌≡◌ {A = Place} (record { wanted = p.wanted; runs = r; rows = p.rows; keys = p.keys }) (handed a p)
-handed_is a p xs i r same at is =
-    ap (λ z. put_place p z) (is ∙ ap (λ n. sized p (insert p.runs.items n a)) (at ∙ ap (prefix_len (λ b. key_lt (start_of b) (start_of a))) same) ∙ ap (sized p) (insert_is_put start_of a p.runs.items))

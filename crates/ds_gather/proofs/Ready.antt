@@ -63,7 +63,6 @@ raised_both n d m e f h is = omega (arith, h, is)
 
 keeps : (got : List Arrival) (r : Reply) (p : Place) → HasRoom got p → HasRoom got (grown r p)
 keeps got r p h = record {
-  sorted = h.sorted;
   runs = raised _ _ _ 1 h.runs;
   rows = raised _ _ _ (length (rows_in r.body)) h.rows;
   keys = raised _ _ _ (length (keys_in r.body)) h.keys;
@@ -73,7 +72,6 @@ keeps got r p h = record {
 
 pub room_same : (xs ys : List Arrival) (p : Place) → those_at pos_of p.wanted.pos ys ≡ those_at pos_of p.wanted.pos xs → HasRoom xs p → HasRoom ys p
 room_same xs ys p is h = record {
-  sorted = h.sorted;
   runs = subst (λ z. length p.runs.items + length z ≤ p.runs.size) (sym is) h.runs;
   rows = subst (λ z. length (all_rows p.runs.items) + length (all_rows z) ≤ p.rows.size) (sym is) h.rows;
   keys = subst (λ z. length (all_keys p.runs.items) + length (all_keys z) ≤ p.keys.size) (sym is) h.keys;
@@ -86,7 +84,6 @@ room_grown got a p e h =
     let at = those_at pos_of p.wanted.pos got in
     let is : those_at pos_of p.wanted.pos (got ++ a ∷ []) ≡ at ++ a ∷ [] = at_same p.wanted.pos a got e in
     record {
-      sorted = h.sorted;
       runs = raised_both (length p.runs.items) (length at) p.runs.size 1 _ h.runs (ap length is ∙ length-append at (a ∷ []));
       rows = raised_both (length (all_rows p.runs.items)) (length (all_rows at)) p.rows.size (length (rows_in a.reply.body)) _ h.rows (ap (λ z. length (all_rows z)) is ∙ ap length (rows_push at a) ∙ length-append (all_rows at) (rows_in a.reply.body));
       keys = raised_both (length (all_keys p.runs.items)) (length (all_keys at)) p.keys.size (length (keys_in a.reply.body)) _ h.keys (ap (λ z. length (all_keys z)) is ∙ ap length (keys_push at a) ∙ length-append (all_keys at) (keys_in a.reply.body));
@@ -157,7 +154,6 @@ room_first : (xs ys : List Arrival) (p : Place) → HasRoom (xs ++ ys) p → Has
 room_first xs ys p h =
     let n = p.wanted.pos in
     record {
-      sorted = h.sorted;
       runs = part_low (length p.runs.items) (length (those_at pos_of n xs)) (length (those_at pos_of n ys)) _ p.runs.size (ap length (at_append n xs ys) ∙ length-append (those_at pos_of n xs) (those_at pos_of n ys)) h.runs;
       rows = part_low (length (all_rows p.runs.items)) (length (all_rows (those_at pos_of n xs))) (length (all_rows (those_at pos_of n ys))) _ p.rows.size (ap (λ z. length (all_rows z)) (at_append n xs ys) ∙ rows_of_both (those_at pos_of n xs) (those_at pos_of n ys)) h.rows;
       keys = part_low (length (all_keys p.runs.items)) (length (all_keys (those_at pos_of n xs))) (length (all_keys (those_at pos_of n ys))) _ p.keys.size (ap (λ z. length (all_keys z)) (at_append n xs ys) ∙ keys_of_both (those_at pos_of n xs) (those_at pos_of n ys)) h.keys;
@@ -169,7 +165,6 @@ room_last : (xs ys : List Arrival) (p : Place) → HasRoom (xs ++ ys) p → HasR
 room_last xs ys p h =
     let n = p.wanted.pos in
     record {
-      sorted = h.sorted;
       runs = part_high (length p.runs.items) (length (those_at pos_of n xs)) (length (those_at pos_of n ys)) _ p.runs.size (ap length (at_append n xs ys) ∙ length-append (those_at pos_of n xs) (those_at pos_of n ys)) h.runs;
       rows = part_high (length (all_rows p.runs.items)) (length (all_rows (those_at pos_of n xs))) (length (all_rows (those_at pos_of n ys))) _ p.rows.size (ap (λ z. length (all_rows z)) (at_append n xs ys) ∙ rows_of_both (those_at pos_of n xs) (those_at pos_of n ys)) h.rows;
       keys = part_high (length (all_keys p.runs.items)) (length (all_keys (those_at pos_of n xs))) (length (all_keys (those_at pos_of n ys))) _ p.keys.size (ap (λ z. length (all_keys z)) (at_append n xs ys) ∙ keys_of_both (those_at pos_of n xs) (those_at pos_of n ys)) h.keys;

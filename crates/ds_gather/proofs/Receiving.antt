@@ -1,21 +1,25 @@
 -- A gatherer from its beginning over each answer to the replies.
-use Rattle.std.proofs.Common.{◌≡◌, ℕ, suc, ◌+◌, ◌≤◌, true, false, List, [], ◌∷◌, ◌++◌, map, length, drop, refl, sym, ap, ◌∙◌, subst, arith, Result, Ok, Err, OnOk, OnErr}
+use Rattle.std.proofs.Common.{◌≡◌, ℕ, suc, ◌+◌, ◌≤◌, true, false, List, [], ◌∷◌, ◌++◌, map, length, take, drop, refl, sym, ap, ◌∙◌, subst, arith, Result, Ok, Err, OnOk, OnErr}
 use Rattle.std.specs.Result.{is_err}
 use Rattle.std.specs.declared.alloc.AllocError.{AllocError}
+use Rattle.ds_kind.specs.Bodies.{in_order}
 use Rattle.ds_kind.specs.Request.{span_of}
 use Rattle.ds_cover.specs.Items.{PositionsRise}
 use Rattle.ds_kind.specs.declared.batch.Item.{Item}
 use Rattle.ds_kind.specs.declared.reply.Reply.{Reply}
-use Rattle.ds_gather.specs.Gathered.{wanted, arrival, arrivals, gathered}
+use Rattle.ds_gather.specs.Gathered.{wanted, start_of, arrival, arrivals, gathered}
 use Rattle.ds_gather.specs.Gathering.{Gathering}
+use Rattle.ds_gather.specs.Numbered.{came_in, AreNumbered}
 use Rattle.ds_gather.specs.Places.{IsReady, wanted_in, change_at, grown, place_for, filled, reply_from, no_room}
 use Rattle.ds_gather.specs.Roomy.{Roomy}
 use Rattle.ds_gather.specs.declared.arrival.Arrival.{Arrival}
 use Rattle.ds_gather.specs.declared.arrival.Wanted.{Wanted}
+use Rattle.ds_gather.specs.declared.came.Came.{Came}
 use Rattle.ds_gather.specs.declared.place.Place.{Place}
 use Rattle.ds_gather.proofs.Coming.{come_more, come_all, no_replies}
 use Rattle.ds_gather.proofs.Filling.{ready_first_places, wanted_first, all_replies}
 use Rattle.ds_gather.proofs.Joining.{assoc, all_nil}
+use Rattle.ds_gather.proofs.Ranking.{came_push, came_take, numbered_push}
 use Rattle.ds_gather.proofs.Ready.{ready_grown, ready_pushed, grown_wanted}
 
 abbrev gathering : List Wanted → List Arrival → Gathering
@@ -44,13 +48,20 @@ replies_room is ps old new n start more count places =
 pub new_view : (is : List Item) (ps : List Place) (got : List Arrival) → ps ≡ map place_for is → got ≡ [] → gathering (wanted_in ps) got ≡ record { wanted = map wanted is; got = [] }
 new_view is ps got places none = ap (λ z. gathering (wanted_in z) got) places ∙ ap (λ w. gathering w got) (wanted_first is) ∙ ap (gathering (map wanted is)) none
 
+pub none_numbered : (got : List Came) → got ≡ [] → AreNumbered got
+none_numbered got none = subst AreNumbered (sym none) refl
+
 -- one answer
 
-pub pushed_so : (got now : List Arrival) (i : Item) (k : List ℕ) (r : Reply) → k ≡ (span_of i.request).start → now ≡ got ++ record { pos = i.pos; start = k; reply = r } ∷ [] → now ≡ got ++ arrival i r ∷ []
-pushed_so got now i k r key is = is ∙ ap (λ z. got ++ from z ∷ []) key
+pub pushed_so : (got now : List Came) (i : Item) (k : List ℕ) (r : Reply) (n : ℕ) → k ≡ (span_of i.request).start → now ≡ got ++ record { number = n; arrival = record { pos = i.pos; start = k; reply = r } } ∷ [] → came_in now ≡ came_in got ++ arrival i r ∷ []
+pushed_so got now i k r n key is =
+    ap came_in is ∙ came_push got (record { number = n; arrival = from k }) ∙ ap (λ z. came_in got ++ from z ∷ []) key
   where
     from : List ℕ → Arrival
     from z = record { pos = i.pos; start = z; reply = r }
+
+pub pushed_numbered : (got now : List Came) (a : Arrival) (n : ℕ) → now ≡ got ++ record { number = n; arrival = a } ∷ [] → n ≡ length got → AreNumbered got → AreNumbered now
+pushed_numbered got now a n is count are = subst AreNumbered (sym is) (numbered_push got (record { number = n; arrival = a }) are count)
 
 pub made_err : (n : ℕ) (r : Reply) (got now : List Arrival) (ps qs : List Place) → qs ≡ map (change_at n (grown r)) ps → now ≡ got → IsReady got ps → IsReady now qs
 made_err n r got now ps qs made same h = subst (λ g. IsReady g qs) (sym same) (subst (IsReady got) (sym made) (ready_grown n got r ps h))
@@ -107,7 +118,11 @@ none_left (i ∷ is) h = absurd (omega (arith, h))
 
 -- the replies
 
-pub taken : (g : Gathering) (got : List Arrival) (ps qs : List Place) (xs res : List Reply) → gathering (wanted_in ps) got ≡ g → IsReady got ps → xs ≡ [] → qs ≡ map (filled got) ps → res ≡ xs ++ map reply_from qs → res ≡ gathered g.wanted g.got
-taken g got ps qs xs res view h none all is =
-    is ∙ ap (λ z. z ++ map reply_from qs) none ∙ ap (map reply_from) all ∙ all_replies got ps h.fresh
+pub taken : (g : Gathering) (got all : List Arrival) (ps qs : List Place) (xs res : List Reply) → gathering (wanted_in ps) got ≡ g → all ≡ in_order start_of got → IsReady got ps → xs ≡ [] → qs ≡ map (filled all) ps → res ≡ xs ++ map reply_from qs → res ≡ gathered g.wanted g.got
+taken g got all ps qs xs res view order h none is made =
+    made ∙ ap (λ z. z ++ map reply_from qs) none ∙ ap (map reply_from) is ∙ all_replies got all ps order h.fresh
     ∙ ap (λ (h : Gathering). gathered h.wanted h.got) view
+
+pub taken_back : (g : Gathering) (ws : List Wanted) (got now : List Came) (n : ℕ) → gathering ws (came_in got) ≡ g → now ≡ take n got → gathering ws (came_in now) ≡ record { wanted = g.wanted; got = take n g.got }
+taken_back g ws got now n view is =
+    ap (λ z. gathering ws (came_in z)) is ∙ ap (gathering ws) (came_take n got) ∙ ap (λ (h : Gathering). gathering h.wanted (take n h.got)) view

@@ -1,12 +1,11 @@
 -- What is kept for each request of a part, and the room that it has.
-use Rattle.std.specs.Prelude.{◌≡◌, ℕ, ◌+◌, ◌≤◌, ◌<◌, ◌==◌, List, [], ◌∷◌, map, length, if◌then◌else◌, Option, Some, None, nat_lt, get_or, false}
+use Rattle.std.specs.Prelude.{◌≡◌, ℕ, ◌+◌, ◌≤◌, ◌<◌, ◌==◌, List, [], ◌∷◌, ◌++◌, map, length, if◌then◌else◌, Option, Some, None, nat_lt, get_or, false}
 use Rattle.std.specs.List.{prefix_len}
-use Rattle.ds_kind.specs.Bodies.{put_in_order, those_at}
+use Rattle.ds_kind.specs.Bodies.{those_at}
 use Rattle.ds_kind.specs.declared.batch.Item.{Item}
 use Rattle.ds_kind.specs.declared.reply.Reply.{Reply}
-use Rattle.ds_cover.specs.Chains.{Sorts}
 use Rattle.ds_gather.specs.Roomy.{Roomy}
-use Rattle.ds_gather.specs.Gathered.{wanted, pos_of, start_of, rows_in, keys_in, all_rows, all_keys, in_direction, joined, resume_at}
+use Rattle.ds_gather.specs.Gathered.{wanted, pos_of, rows_in, keys_in, all_rows, all_keys, in_direction, joined, resume_at}
 use Rattle.ds_gather.specs.declared.arrival.Arrival.{Arrival}
 use Rattle.ds_gather.specs.declared.arrival.Wanted.{Wanted}
 use Rattle.ds_gather.specs.declared.place.Place.{Place}
@@ -27,9 +26,8 @@ abbrev pub EachPlace : (Place → Type 0) → List Place → Type 0
 EachPlace P [] = Unit {0}
 EachPlace P (p ∷ ps) = P p × EachPlace P ps
 
--- what came so far is in order, and there is room for it and for these
+-- there is room for what came so far and for these
 pub record HasRoom (more : List Arrival) (p : Place) : Type 0 where
-  pub sorted : Sorts start_of p.runs.items
   pub runs : length p.runs.items + length (those_at pos_of p.wanted.pos more) ≤ p.runs.size
   pub rows : length (all_rows p.runs.items) + length (all_rows (those_at pos_of p.wanted.pos more)) ≤ p.rows.size
   pub keys : length (all_keys p.runs.items) + length (all_keys (those_at pos_of p.wanted.pos more)) ≤ p.keys.size
@@ -39,7 +37,7 @@ pub record HasRoom (more : List Arrival) (p : Place) : Type 0 where
 abbrev pub IsFresh : Place → Type 0
 IsFresh p = p.runs.items ≡ []
 
--- the places before any arrival is put in order
+-- the places before any arrival is put there
 pub record IsReady (got : List Arrival) (ps : List Place) : Type 0 where
   pub rise : Rises (wanted_in ps)
   pub room : EachPlace (HasRoom got) ps
@@ -62,17 +60,13 @@ more_room n r = record { items = r.items; size = r.size + n }
 abbrev pub grown : Reply → Place → Place
 grown r p = record { wanted = p.wanted; runs = more_room 1 p.runs; rows = more_room (length (rows_in r.body)) p.rows; keys = more_room (length (keys_in r.body)) p.keys }
 
--- with what came put in order
+-- with what came put at the end
 abbrev pub handed : Arrival → Place → Place
-handed a p = record { wanted = p.wanted; runs = record { items = put_in_order start_of a p.runs.items; size = p.runs.size }; rows = p.rows; keys = p.keys }
+handed a p = record { wanted = p.wanted; runs = record { items = p.runs.items ++ a ∷ []; size = p.runs.size }; rows = p.rows; keys = p.keys }
 
--- with all of these put in order
-abbrev pub put_all : List Arrival → List Arrival → List Arrival
-put_all [] runs = runs
-put_all (a ∷ more) runs = put_in_order start_of a (put_all more runs)
-
+-- with all of these that came for it put there, one after another
 abbrev pub filled : List Arrival → Place → Place
-filled got p = record { wanted = p.wanted; runs = record { items = put_all (those_at pos_of p.wanted.pos got) p.runs.items; size = p.runs.size }; rows = p.rows; keys = p.keys }
+filled got p = record { wanted = p.wanted; runs = record { items = p.runs.items ++ those_at pos_of p.wanted.pos got; size = p.runs.size }; rows = p.rows; keys = p.keys }
 
 abbrev pub reply_from : Place → Reply
 reply_from p = record { body = joined p.wanted.empty (in_direction p.wanted.down p.runs.items); resume = resume_at (in_direction p.wanted.down p.runs.items) }

@@ -5,6 +5,7 @@ ghost use Rattle.ds_gather.specs.Gathered.{wanted, arrival, arrivals, gathered};
 ghost use Rattle.ds_kind.specs.Request.{span_of};
 
 use crate::arrival::Arrival;
+use crate::came::{Came, in_key_order};
 use crate::place::Place;
 use crate::places::{distributed, make_room, places_for, replies_of};
 use crate::room::Room;
@@ -18,20 +19,21 @@ use std::marker::Model;
 #[derive(Drop)]
 pub struct Gather {
     places: Vec<Place>,
-    got: Vec<Arrival>,
+    got: Vec<Came>,
     replies: Room<Reply>,
 }
 
 impl Model for Gather {
     ghost use Rattle.std.specs.Prelude.{◌≡◌, ◌≤◌, [], length};
     ghost use Rattle.ds_gather.specs.Gathering.{Gathering};
+    ghost use Rattle.ds_gather.specs.Numbered.{came_in, AreNumbered};
     ghost use Rattle.ds_gather.specs.Places.{wanted_in, IsReady};
 
     ghost Value = { Gathering };
 
-    ghost view = { λ g. record { wanted = wanted_in g.places.items; got = g.got.items } };
+    ghost view = { λ g. record { wanted = wanted_in g.places.items; got = came_in g.got.items } };
 
-    ghost invariant = { λ g. IsReady g.got.items g.places.items × (g.replies.items ≡ []) × (length g.places.items ≤ g.replies.size) };
+    ghost invariant = { λ g. IsReady (came_in g.got.items) g.places.items × (g.replies.items ≡ []) × (length g.places.items ≤ g.replies.size) × AreNumbered g.got.items };
 }
 
 // Where the item's span starts.
@@ -81,11 +83,13 @@ impl Gather {
     {
         let start = start_of(alloc, item)?;
         make_room(&mut self.places, item.pos, &reply)?;
-        self.got.push(Arrival {
+        let arrival = Arrival {
             pos: item.pos,
             start,
             reply,
-        })?;
+        };
+        let number = self.got.len();
+        self.got.push(Came { number, arrival })?;
         Ok(())
     }
 
@@ -114,7 +118,8 @@ impl Gather {
     /// One reply for each item of the part, made of what came for it, joined in the order in which
     /// the items that came start, for a reverse scan from the last down: so rows and keys are in key
     /// order where those of each piece are. A resume span is the one that came, and a request for
-    /// which nothing came has its kind's empty reply. It takes no memory.
+    /// which nothing came has its kind's empty reply. It takes no memory, and the time of one sort,
+    /// whatever the order of arrival.
     pub fn take(self) -> Replies
         ensures { result ≡ gathered self.wanted self.got }
     {
@@ -123,6 +128,6 @@ impl Gather {
             got,
             replies,
         } = self;
-        replies_of(distributed(places, got), replies)
+        replies_of(distributed(places, in_key_order(got)), replies)
     }
 }

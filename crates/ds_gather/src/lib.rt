@@ -2,6 +2,7 @@
 #![tactic(auto)]
 
 mod arrival;
+mod came;
 mod gather;
 mod laws;
 mod place;
@@ -10,4 +11,4 @@ mod room;
 
 pub use arrival::{Arrival, Wanted};
 pub use gather::Gather;
-pub use laws::{bodies_joined, order_free};
+pub use laws::{bodies_joined, keys_in_order, order_free, rows_in_order};

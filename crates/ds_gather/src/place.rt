@@ -1,11 +1,8 @@
 //! What is kept for one request: what came for it, and room for the whole of its reply.
 ghost use Rattle.std.specs.Prelude.{◌≡◌, ◌+◌, ◌<◌, ◌≤◌, ◌++◌, [], length, Some, OnOk, OnErr};
-ghost use Rattle.std.specs.List.{prefix_len};
 ghost use Rattle.std.specs.Option.{option_or};
-ghost use Rattle.ds_base.specs.Order.{key_lt};
 ghost use Rattle.ds_kind.specs.Bodies.{empty_body};
-ghost use Rattle.ds_cover.specs.Chains.{Sorts};
-ghost use Rattle.ds_gather.specs.Gathered.{rows_in, keys_in, all_rows, all_keys, resume_at, body_at, given, in_direction, start_of};
+ghost use Rattle.ds_gather.specs.Gathered.{rows_in, keys_in, all_rows, all_keys, resume_at, body_at, given, in_direction};
 
 use crate::arrival::{Arrival, Wanted};
 use crate::room::Room;
@@ -118,15 +115,6 @@ fn first_of(first: Option<Span>, second: Option<Span>) -> Option<Span>
         Some(span) => Some(span),
         None => second,
     }
-}
-
-// The place before the first that does not start below the key, found by halving.
-fn place_before(arrivals: &[Arrival], start: &Key) -> usize
-    requires { Sorts start_of arrivals.now }
-    ensures place { result ≡ prefix_len (λ a. key_lt (start_of a) start.now) arrivals.now }
-    ensures within { result ≤ length arrivals.now }
-{
-    arrivals.partition_point(|arrival| arrival.start < *start)
 }
 
 // The reply of a request with rows.
@@ -250,14 +238,12 @@ impl Place {
         Ok(())
     }
 
-    /// Puts what came in order, where there is room for it.
+    /// Puts what came at the end, where there is room for it.
     pub(crate) fn hand(&mut self, arrival: Arrival)
-        requires sorted { Sorts start_of self.old.runs.items }
-        requires room { length self.old.runs.items < self.old.runs.size }
+        requires { length self.old.runs.items < self.old.runs.size }
         ensures { self.new ≡ handed arrival self.old }
     {
-        let place = place_before(self.runs.as_slice(), &arrival.start);
-        self.runs.insert(place, arrival);
+        self.runs.push(arrival);
     }
 
     /// The reply made of all that came.

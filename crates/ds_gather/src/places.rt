@@ -1,9 +1,11 @@
 //! The places of all requests of a part, by rising position.
 ghost use Rattle.std.specs.Prelude.{◌≡◌, ◌+◌, ◌≤◌, ◌++◌, ◌∷◌, [], length, map, nat_lt, IfOk, OnOk, OnErr};
 ghost use Rattle.std.specs.List.{prefix_len};
+ghost use Rattle.ds_gather.specs.Numbered.{came_in};
 ghost use Rattle.ds_gather.specs.Places.{change_at, filled, grown, handed, place_for, reply_from, wanted_in, EachPlace, FoundIf, HasRoom, Rises};
 
 use crate::arrival::Arrival;
+use crate::came::Came;
 use crate::place::Place;
 use crate::room::Room;
 use ds_kind::{Item, Replies, Reply};
@@ -58,7 +60,7 @@ pub(crate) fn make_room(places: &mut Vec<Place>, pos: u32, reply: &Reply) -> Res
     }
 }
 
-// Puts what came in order at its place, where there is room for it.
+// Puts what came at its place, where there is room for it.
 fn hand_over(places: &mut Vec<Place>, arrival: Arrival)
     requires rise { Rises (wanted_in (places.old).items) }
     requires room { EachPlace (HasRoom (arrival ∷ [])) (places.old).items }
@@ -73,17 +75,16 @@ fn hand_over(places: &mut Vec<Place>, arrival: Arrival)
     }
 }
 
-/// The places with all that came in order.
-pub(crate) fn distributed(places: Vec<Place>, got: Vec<Arrival>) -> Vec<Place>
+/// The places with what came for each, one after another.
+pub(crate) fn distributed(places: Vec<Place>, got: Vec<Came>) -> Vec<Place>
     requires rise { Rises (wanted_in places.items) }
-    requires room { EachPlace (HasRoom got.items) places.items }
-    ensures all { result.items ≡ map (filled got.items) places.items }
+    requires room { EachPlace (HasRoom (came_in got.items)) places.items }
+    ensures all { result.items ≡ map (filled (came_in got.items)) places.items }
     ensures room { EachPlace (HasRoom []) result.items }
 {
     let mut places = places;
-    let mut got = got;
-    'got: while let Some(arrival) = got.pop() {
-        hand_over(&mut places, arrival);
+    'got: for came in got {
+        hand_over(&mut places, came.arrival);
     }
     places
 }

@@ -1,5 +1,5 @@
 //! Lists with room for more: what is put in up to their room takes no memory.
-ghost use Rattle.std.specs.Prelude.{◌≡◌, ◌+◌, ◌<◌, ◌≤◌, [], ◌∷◌, ◌++◌, length, OnOk, OnErr, insert};
+ghost use Rattle.std.specs.Prelude.{◌≡◌, ◌+◌, ◌<◌, ◌≤◌, [], ◌∷◌, ◌++◌, length, OnOk, OnErr};
 
 use std::alloc::{AllocError, Global};
 use std::marker::Model;
@@ -83,18 +83,6 @@ impl<T: Drop> Room<T> {
         ensures { self.new ≡ record { items = self.old.items ++ item ∷ []; size = self.old.size } }
     {
         match self.items.push(item) {
-            Ok(()) => (),
-            Err(_) => unreachable!(),
-        }
-    }
-
-    /// Puts the item at a place, where there is room for it.
-    pub(crate) fn insert(&mut self, place: usize, item: T)
-        requires there { place ≤ length self.old.items }
-        requires room { length self.old.items < self.old.size }
-        ensures { self.new ≡ record { items = insert self.old.items place item; size = self.old.size } }
-    {
-        match self.items.insert(place, item) {
             Ok(()) => (),
             Err(_) => unreachable!(),
         }

@@ -4,15 +4,8 @@ use Rattle.ds_gather.proofs.Placing.{unchanged}
 use Rattle.ds_gather.proofs.Changing.{changed_so, found_room, found_pos, room_for_one}
 use Rattle.ds_gather.proofs.places.hand_over.Goals as goal
 
-pub hand-requires-clause-sorted : goal.hand-requires-clause-sorted
-hand-requires-clause-sorted c =
-    let ps = c.args.places.now.items in
-    let a = c.args.arrival in
-    let at : Found c.args.arrival.pos c.args.places.now.items c.in-Some.i = search rules in
-    (found_room a ps c.in-Some.i c.index_mut-place.result.now at c.index_mut-place.ensures.value c.requires.room).sorted
-
-pub hand-requires-clause-room : goal.hand-requires-clause-room
-hand-requires-clause-room c =
+pub hand-requires : goal.hand-requires
+hand-requires c =
     let ps = c.args.places.now.items in
     let a = c.args.arrival in
     let old = c.index_mut-place.result.now in
