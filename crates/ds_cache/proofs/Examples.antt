@@ -1,11 +1,11 @@
 -- Worked examples of the definitions: what overlaps, what is found, and what an insertion does.
-use Rattle.std.proofs.Common.{◌≡◌, ℕ, false, [], ◌∷◌, Some, None, refl}
+use Rattle.std.proofs.Common.{◌≡◌, ℕ, true, false, [], ◌∷◌, Some, None, refl}
 use Rattle.ds_base.specs.declared.value.Dir.TheVariants.{Forward, Reverse}
 use Rattle.ds_desc.specs.declared.desc.Info.{Info}
 use Rattle.ds_cache.specs.declared.inserted.Inserted.TheVariants.{Older, Renewed, Added, Spent}
 use Rattle.ds_desc.specs.Descs.{overlap}
-use Rattle.ds_cache.specs.Entries.{Cache, cache, found}
-use Rattle.ds_cache.specs.Insert.{put_in}
+use Rattle.ds_cache.specs.Entries.{Cache, cache, found, fronted, without}
+use Rattle.ds_cache.specs.Insert.{put_in, with_lease, leased, is_later_than}
 
 -- the range from one byte up to another, of this generation, with this number of its lease
 abbrev range : ℕ → ℕ → ℕ → ℕ → Info
@@ -46,3 +46,46 @@ in_reverse_an_end_is = refl
 
 in_reverse_a_start_is_not : found Reverse (98 ∷ []) one.entries ≡ None
 in_reverse_a_start_is_not = refl
+
+-- of two that are newer, the generation of the one used last is told
+of_two_newer_the_last_used : put_in (range 98 100 3 1) (cache ((2, range 99 102 5 1) ∷ (1, range 97 99 7 1) ∷ []) 2 2)
+    ≡ record { inserted = Older 5; token = 0; after = cache ((2, range 99 102 5 1) ∷ (1, range 97 99 7 1) ∷ []) 2 2 }
+of_two_newer_the_last_used = refl
+
+-- the range of the one entry, on another node
+abbrev moved : Info
+moved = record {
+  desc = record { id = 1; span = record { start = 98 ∷ []; end = 100 ∷ [] }; nodes = 2 ∷ []; generation = 2 };
+  lease = record { node = 2; number = 2 };
+}
+
+other_replicas_are_another_descriptor : put_in moved one ≡ record { inserted = Older 2; token = 0; after = one }
+other_replicas_are_another_descriptor = refl
+
+-- the range of the one entry, with the lease at this node, of this number
+abbrev leased_to : ℕ → ℕ → Info
+leased_to n l = with_lease (record { node = n; number = l }) (range 98 100 2 1)
+
+an_equal_number_is_no_later_lease : put_in (leased_to 2 1) one ≡ record { inserted = Renewed; token = 3; after = one }
+an_equal_number_is_no_later_lease = refl
+
+a_later_lease_is_told : leased 3 (record { node = 2; number = 2 }) one.entries ≡ (3, leased_to 2 2) ∷ []
+a_later_lease_is_told = refl
+
+an_equal_one_changes_nothing : leased 3 (record { node = 2; number = 1 }) one.entries ≡ one.entries
+an_equal_one_changes_nothing = refl
+
+nor_is_it_later : is_later_than (record { node = 2; number = 1 }) (Some (range 98 100 2 1)) ≡ false
+nor_is_it_later = refl
+
+the_next_number_is : is_later_than (record { node = 2; number = 2 }) (Some (range 98 100 2 1)) ≡ true
+the_next_number_is = refl
+
+a_found_entry_goes_to_the_front : fronted (Some (1, range 97 99 1 1)) two.entries ≡ (1, range 97 99 1 1) ∷ (2, range 99 102 1 1) ∷ []
+a_found_entry_goes_to_the_front = refl
+
+one_entry_is_taken_out : without 2 two.entries ≡ (1, range 97 99 1 1) ∷ []
+one_entry_is_taken_out = refl
+
+the_serial_0_takes_out_none : without 0 two.entries ≡ two.entries
+the_serial_0_takes_out_none = refl

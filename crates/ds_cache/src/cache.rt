@@ -2,6 +2,7 @@
 ghost use Rattle.std.specs.Prelude.{◌≡◌, ◌≤◌, ◌<◌, ◌+◌, ◌-◌, ◌^◌, [], ◌∷◌, take, OnOk, OnErr, IfOk, option_map, option_copied, is_some};
 ghost use Rattle.lru.specs.LruCache.{lru_cache};
 ghost use Rattle.ds_cache.specs.Entries.{Cache, cache, found, fronted, at_serial, without, IsIndex, IsSound};
+ghost use Rattle.ds_cache.specs.declared.inserted.Inserted.TheVariants.{Added};
 ghost use Rattle.ds_cache.specs.Insert.{clear_of, put_in, put_all, PutFrom, leased, is_later_than};
 
 use crate::inserted::Inserted;
@@ -130,10 +131,12 @@ impl RangeCache {
         Ok(Token { serial })
     }
 
-    /// Inserts a descriptor with its lease. Want of memory leaves the cache as it was.
+    /// Inserts a descriptor with its lease. Want of memory leaves the cache as it was, and comes only
+    /// where the descriptor would be [`Added`](Inserted::Added): the other answers take no memory.
     pub fn insert(&mut self, alloc: Global, info: Info) -> Result<(Inserted, Token), AllocError>
         ensures ok { IfOk result (λ r. record { inserted = r.0; token = r.1; after = self.new } ≡ put_in info self.old) }
         ensures err { OnErr result (self.new ≡ self.old) }
+        ensures wants { OnErr result ((put_in info self.old).inserted ≡ Added) }
     {
         if let Some(by) = newer_generation(&self.recency, &self.index, &info) {
             return Ok((Inserted::Older { by }, Token { serial: 0 }));
