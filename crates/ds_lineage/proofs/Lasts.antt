@@ -3,7 +3,7 @@ use Rattle.std.proofs.Common.{◌≡◌, ℕ, zero, suc, Bool, true, false, cond
 use Rattle.std.specs.List.{find, slice_get}
 use Rattle.std.proofs.lemmas.List.{reverse-append}
 use Rattle.ds_base.specs.declared.value.Dir.TheVariants.{Forward}
-use Rattle.ds_base.proofs.SmallFacts.{append_nil, some_same}
+use Rattle.ds_base.proofs.SmallFacts.{some_same}
 use Rattle.ds_desc.specs.Contains.{contains}
 use Rattle.ds_desc.specs.Descs.{back_from, containing}
 use Rattle.ds_desc.specs.declared.desc.RangeDesc.{RangeDesc}

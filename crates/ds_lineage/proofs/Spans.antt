@@ -1,6 +1,6 @@
 -- What a descriptor comes after, told by whole spans.
-use Rattle.std.proofs.Common.{◌≡◌, ℕ, Bool, true, false, ◌&&◌, List, [], ◌∷◌, ◌++◌, Some, refl, sym, ap, ◌∙◌, subst, length, reverse}
-use Rattle.std.specs.List.{find, slice_get}
+use Rattle.std.proofs.Common.{◌≡◌, ℕ, true, false, List, [], ◌∷◌, ◌++◌, Some, refl, sym, ◌∙◌, subst, length, reverse}
+use Rattle.std.specs.List.{find}
 use Rattle.ds_base.specs.Order.{Extent, key_lt, key_le}
 use Rattle.ds_base.specs.declared.value.Dir.TheVariants.{Forward}
 use Rattle.ds_base.proofs.KeyOrder.{key_le_lt-trans}
@@ -9,7 +9,7 @@ use Rattle.ds_base.proofs.SmallFacts.{and_first, and_second, and_both}
 use Rattle.ds_desc.specs.Contains.{contains}
 use Rattle.ds_desc.specs.Descs.{containing, overlap}
 use Rattle.ds_desc.specs.declared.desc.RangeDesc.{RangeDesc}
-use Rattle.ds_lineage.specs.Last.{IsLastAt, IsNewestAt, Begins, Follows, Joins}
+use Rattle.ds_lineage.specs.Last.{IsNewestAt, Begins, Follows, Joins}
 use Rattle.ds_lineage.proofs.Lasts.{last-found, last-kept, last-new, none-kept, there-kept, there-new}
 
 -- no key is in two spans that don't overlap

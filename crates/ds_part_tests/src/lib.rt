@@ -1,4 +1,4 @@
-//! Tests of the public calls of the sender's parts: one file for each crate.
+//! Tests of the public calls of the sender's parts and of the descriptors so far: one file for each crate.
 #![tactic(auto)]
 
 #[cfg(test)]
