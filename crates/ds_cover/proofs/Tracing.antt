@@ -51,7 +51,7 @@ cut-own s e (ResolveIntentRange a) = refl
 cut-own s e (AdminSplit a) = refl
 cut-own s e (AdminTransferLease a) = refl
 
-uncut : (r : Request) → r ≡ cut_to (span_of r).start (span_of r).end r
+pub uncut : (r : Request) → r ≡ cut_to (span_of r).start (span_of r).end r
 uncut (Get a) = refl
 uncut (Scan a) = refl
 uncut (ReverseScan a) = refl

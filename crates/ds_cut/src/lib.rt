@@ -9,5 +9,6 @@ mod clip;
 mod cutter;
 mod seek;
 mod spans;
+mod within;
 
 pub use cutter::Cutter;
