@@ -4,7 +4,7 @@ use Rattle.std.specs.List.{flat_map}
 use Rattle.ds_base.specs.Order.{key_le}
 use Rattle.ds_kind.specs.Request.{span_of}
 use Rattle.ds_kind.specs.declared.batch.Item.{Item}
-use Rattle.ds_cover.specs.Items.{item_span, is_at, AllSome, AllAfter, PositionsRise, IsOneOf}
+use Rattle.ds_cover.specs.Items.{item_pos, item_span, is_at, AllSome, AllAfter, PositionsRise, IsOneOf}
 use Rattle.ds_cover.specs.Coverage.{holds_at, positions_at, Covered}
 use Rattle.ds_cover.specs.Chains.{one_if, times_held, by_start, Chain}
 use Rattle.ds_cover.proofs.Tests.{zero_plus}
@@ -34,7 +34,7 @@ times-at n k (x ∷ xs) =
           ]
     ] refl
 
-times-none : (n : ℕ) (k : List ℕ) (xs : List Item) → AllAfter n xs → times n (positions_at k xs) ≡ 0
+times-none : (n : ℕ) (k : List ℕ) (xs : List Item) → AllAfter item_pos n xs → times n (positions_at k xs) ≡ 0
 times-none n k [] after = refl
 times-none n k (x ∷ xs) after =
     elim (holds_at k x) as (λ h. times n (cond h (x.pos ∷ positions_at k xs) (positions_at k xs)) ≡ 0) [
@@ -42,7 +42,7 @@ times-none n k (x ∷ xs) after =
       | false ↦ times-none n k xs after.1
     ]
 
-pub after-in : (n : ℕ) (xs : List Item) → AllAfter n xs → (i : Item) → IsOneOf i xs → n < i.pos
+pub after-in : (n : ℕ) (xs : List Item) → AllAfter item_pos n xs → (i : Item) → IsOneOf i xs → n < i.pos
 after-in n [] after i h = absurd h
 after-in n (x ∷ xs) after i h =
     elim h [
@@ -62,7 +62,7 @@ times-one k (x ∷ xs) rise i h =
           ]
     ]
   where
-    first : (y : Item) → AllAfter y.pos xs → times y.pos (cond (holds_at k y) (y.pos ∷ positions_at k xs) (positions_at k xs)) ≡ one_if (holds_at k y)
+    first : (y : Item) → AllAfter item_pos y.pos xs → times y.pos (cond (holds_at k y) (y.pos ∷ positions_at k xs) (positions_at k xs)) ≡ one_if (holds_at k y)
     first y after =
         elim (holds_at k y) as (λ t. times y.pos (cond t (y.pos ∷ positions_at k xs) (positions_at k xs)) ≡ one_if t) [
           | true ↦ ap (λ t. one_if t + times y.pos (positions_at k xs)) (eq-eqb y.pos y.pos refl) ∙ ap (λ m. 1 + m) (times-none y.pos k xs after)

@@ -10,8 +10,9 @@ use Rattle.ds_kind.specs.declared.batch.Item.{Item}
 use Rattle.ds_kind.specs.declared.request.Request.{Request}
 use Rattle.ds_kind.specs.declared.request.Request.TheVariants.{Get, Scan, ReverseScan, Put, ConditionalPut, InitPut, Increment, Delete, DeleteRange, EndTxn, QueryIntent, ResolveIntent, ResolveIntentRange, AdminSplit, AdminTransferLease}
 use Rattle.ds_cover.specs.Cuts.{cut_item, cut_by, within, from, up_to, cut_items, rest_items}
-use Rattle.ds_cover.specs.Items.{AllAfter, PositionsRise, IsOneOf}
+use Rattle.ds_cover.specs.Items.{PositionsRise, IsOneOf}
 use Rattle.ds_cover.specs.Origins.{LiesIn, IsCut, CutsOf}
+use Rattle.ds_cover.proofs.Covering.{after-in}
 use Rattle.ds_cover.proofs.Cutting.{cut_reach, reach-cut, max_right, min_right}
 use Rattle.ds_cover.proofs.Tests.{le_itself}
 
@@ -51,7 +52,7 @@ cut-own s e (ResolveIntentRange a) = refl
 cut-own s e (AdminSplit a) = refl
 cut-own s e (AdminTransferLease a) = refl
 
-uncut : (r : Request) → r ≡ cut_to (span_of r).start (span_of r).end r
+pub uncut : (r : Request) → r ≡ cut_to (span_of r).start (span_of r).end r
 uncut (Get a) = refl
 uncut (Scan a) = refl
 uncut (ReverseScan a) = refl
@@ -162,14 +163,6 @@ its-item (i ∷ is) (b ∷ bs) h c there =
       | inr more ↦ let found = its-item is (b ∷ bs) more c there in (found.0, inr found.1, found.2)
     ]
 
-after-one : (n : ℕ) (items : List Item) (i : Item) → AllAfter n items → IsOneOf i items → n < i.pos
-after-one n [] i all there = absurd there
-after-one n (j ∷ js) i all there =
-    elim there [
-      | inl same ↦ subst (λ (k : Item). n < k.pos) (sym same) all.0
-      | inr rest ↦ after-one n js i all.1 rest
-    ]
-
 apart : {G : Type 0} (n m : ℕ) → n < m → m ≡ n → G
 apart n m h e = absurd (omega (arith, h, e))
 
@@ -179,10 +172,10 @@ one-there (k ∷ ks) i j rise p q e =
     elim p [
       | inl a ↦ elim q [
         | inl b ↦ a ∙ sym b
-        | inr d ↦ apart k.pos j.pos (after-one k.pos ks j rise.0 d) (sym e ∙ ap (λ (z : Item). z.pos) a)
+        | inr d ↦ apart k.pos j.pos (after-in k.pos ks rise.0 j d) (sym e ∙ ap (λ (z : Item). z.pos) a)
       ]
       | inr c ↦ elim q [
-        | inl b ↦ apart k.pos i.pos (after-one k.pos ks i rise.0 c) (e ∙ ap (λ (z : Item). z.pos) b)
+        | inl b ↦ apart k.pos i.pos (after-in k.pos ks rise.0 i c) (e ∙ ap (λ (z : Item). z.pos) b)
         | inr d ↦ one-there ks i j rise.1 c d e
       ]
     ]

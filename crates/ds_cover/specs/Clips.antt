@@ -10,9 +10,11 @@ abbrev pub not_above : Option (List ℕ) → List ℕ → List ℕ
 not_above None k = k
 not_above (Some m) k = min_key m k
 
+-- the part of a span between the bounds
 abbrev pub clip : Option (List ℕ) → Option (List ℕ) → Extent → Extent
 clip low high x = record { start = not_below low x.start; end = not_above high x.end }
 
+-- whether the bounds leave a key
 abbrev pub passes : Option (List ℕ) → Option (List ℕ) → List ℕ → Bool
 passes None None k = true
 passes (Some s) None k = key_le s k

@@ -1,4 +1,4 @@
--- How the work of a part stands in blocks of items: at each key all of it stands in one block.
+-- How the work of a part stands in blocks of items: at each key all of its positions stand in one block.
 use Rattle.std.specs.Prelude.{◌≡◌, ℕ, ◌⊎◌, Bool, List, [], ◌∷◌, map, if◌then◌else◌, refl}
 use Rattle.std.proofs.Common.{inl, inr}
 use Rattle.ds_base.specs.Order.{holds}
@@ -6,7 +6,7 @@ use Rattle.ds_kind.specs.Request.{span_of}
 use Rattle.ds_kind.specs.declared.batch.Item.{Item}
 use Rattle.ds_kind.specs.declared.request.Request.TheVariants.{Get, Scan}
 
--- what items do at one key
+-- which items hold a key
 
 abbrev pub holds_at : List ℕ → Item → Bool
 holds_at k i = holds (span_of i.request).start (span_of i.request).end k
@@ -27,7 +27,7 @@ abbrev pub Shares : List ℕ → List (List ℕ) → Type 0
 Shares ws [] = ws ≡ []
 Shares ws (b ∷ bs) = ((b ≡ ws) × AllNone bs) ⊎ ((b ≡ []) × Shares ws bs)
 
--- at each key one block does what the items do there, in order, and the others do nothing there
+-- at each key one block has the positions that the items have there, in order, and the others have none
 abbrev pub Covered : List Item → List (List Item) → Type 0
 Covered items blocks = (k : List ℕ) → Shares (positions_at k items) (map (positions_at k) blocks)
 

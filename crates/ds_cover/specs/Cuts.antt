@@ -7,6 +7,7 @@ use Rattle.ds_base.specs.declared.value.Dir.TheVariants.{Forward, Reverse}
 use Rattle.ds_kind.specs.Request.{cut_to, span_of}
 use Rattle.ds_kind.specs.declared.batch.Item.{Item}
 use Rattle.ds_kind.specs.declared.request.Request.TheVariants.{Get, Scan}
+use Rattle.ds_cover.specs.Clips.{clip}
 
 -- the item on a part of its span, if anything is left of it
 abbrev pub cut_item : (Extent → Extent) → Item → List Item
@@ -20,14 +21,14 @@ cut_by f items = flat_map (cut_item f) items
 
 -- the part of a span that lies in another
 abbrev pub within : Extent → Extent → Extent
-within span x = record { start = max_key span.start x.start; end = min_key span.end x.end }
+within span x = clip (Some span.start) (Some span.end) x
 
 -- the part of a span from a key on, and up to a key
 abbrev pub from : List ℕ → Extent → Extent
-from m x = record { start = max_key m x.start; end = x.end }
+from m x = clip (Some m) None x
 
 abbrev pub up_to : List ℕ → Extent → Extent
-up_to m x = record { start = x.start; end = min_key m x.end }
+up_to m x = clip None (Some m) x
 
 -- the items cut to the span
 abbrev pub cut_items : Extent → List Item → List Item

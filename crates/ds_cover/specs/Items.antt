@@ -18,14 +18,21 @@ abbrev pub AllSome : {X : Type 0} → (X → Extent) → List X → Type 0
 AllSome f [] = Unit {0}
 AllSome f (x ∷ xs) = (key_lt (f x).start (f x).end ≡ true) × AllSome f xs
 
-abbrev pub AllAfter : ℕ → List Item → Type 0
-AllAfter n [] = Unit {0}
-AllAfter n (i ∷ is) = (n < i.pos) × AllAfter n is
+-- the number is below those of all of these
+abbrev pub AllAfter : {X : Type 0} → (X → ℕ) → ℕ → List X → Type 0
+AllAfter number n [] = Unit {0}
+AllAfter number n (x ∷ xs) = (n < number x) × AllAfter number n xs
 
--- each position is below the later ones
+-- each number is below the later ones
+abbrev pub NumbersRise : {X : Type 0} → (X → ℕ) → List X → Type 0
+NumbersRise number [] = Unit {0}
+NumbersRise number (x ∷ xs) = AllAfter number (number x) xs × NumbersRise number xs
+
+abbrev pub item_pos : Item → ℕ
+item_pos i = i.pos
+
 abbrev pub PositionsRise : List Item → Type 0
-PositionsRise [] = Unit {0}
-PositionsRise (i ∷ is) = AllAfter i.pos is × PositionsRise is
+PositionsRise items = NumbersRise item_pos items
 
 -- each is a range that rises, or a point after whose key there is one more
 abbrev pub AreProper : List Item → Type 0

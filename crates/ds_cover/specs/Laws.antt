@@ -20,7 +20,7 @@ joined blocks = flat_map (λ b. b) blocks
 abbrev pub StaysCovered : Type 0
 StaysCovered = (items : List Item) (xs ys : List (List Item)) → IsPermutation xs ys → Covered items xs → Covered items ys
 
--- all that the items do at a key is what the blocks do there, put together
+-- the positions of the items at a key are those of the blocks there, put together
 abbrev pub CoversAll : Type 0
 CoversAll = (items : List Item) (blocks : List (List Item)) → Covered items blocks → (k : List ℕ) → positions_at k (joined blocks) ≡ positions_at k items
 
@@ -52,7 +52,7 @@ CutsAtPositions =
     (items block : List Item) → PositionsRise items → CutsOf items block → (c : Item) → IsOneOf c block
     → (i : Item) → IsOneOf i items → i.pos ≡ c.pos → IsCut i c
 
--- what all parts' blocks do at a key, in order, is what the parts do there, in order
+-- the positions of all parts' blocks at a key, in order, are those of the parts there, in order
 abbrev pub AllInOrder : Type 0
 AllInOrder =
     (parts : List (List Item)) (work : List (List (List Item))) → AllCovered parts work
@@ -88,7 +88,7 @@ abbrev pub SpansProper : Type 0
 SpansProper = (items : List Item) → AllSpans items → AreProper items
 
 -- where a part is covered by what was accepted and what is left, the accepted items without their resume spans
--- do at each key what the part's items do there without theirs
+-- have at each key the positions that the part's items have there without theirs
 abbrev pub TakenCovers : Type 0
 TakenCovers =
     (taken : ℕ → List ℕ → Bool) (f g : Item → Extent → Extent) (items : List Item) (accepted left : List (List Item))

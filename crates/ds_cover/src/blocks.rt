@@ -6,7 +6,7 @@ pub fn stays_covered()
     ensures { StaysCovered }
 {}
 
-/// What the blocks do at a key, put together, is what the items do there.
+/// The positions of the blocks at a key, put together, are those of the items there.
 pub fn covers_all()
     ensures { CoversAll }
 {}
@@ -42,7 +42,7 @@ pub fn cuts_at_positions()
     ensures { CutsAtPositions }
 {}
 
-/// Parts one after another: what all blocks do at a key, in order, is what the parts do there.
+/// Parts one after another: the positions of all blocks at a key, in order, are those of the parts.
 pub fn all_in_order()
     ensures { AllInOrder }
 {}
@@ -77,8 +77,8 @@ pub fn spans_proper()
     ensures { SpansProper }
 {}
 
-/// Under a limit the accepted items, without their resume spans, do at each key what the part's
-/// items do there without theirs.
+/// Under a limit the accepted items, without their resume spans, have at each key the positions that
+/// the part's items have there without theirs.
 pub fn taken_covers()
     ensures { TakenCovers }
 {}

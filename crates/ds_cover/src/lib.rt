@@ -1,7 +1,8 @@
 //! How the work of a part stands in blocks, and what may be concluded of it.
 //!
 //! A part's items are cut, sent, refused and cut again, in any order. What is accepted and what is
-//! left stands in blocks of items, and at each key one block has all that the part does there. The
+//! left stands in blocks of items. At each key one block has all the positions that the part has
+//! there, and each item of a block is the part's item at its position, cut, under its own number. The
 //! functions here do nothing: each has a law as its clause, for the proofs above.
 #![tactic(auto)]
 

@@ -1,3 +1,4 @@
 pub mod Meaning
 pub mod Seeking
 pub mod Measuring
+pub mod Whole

@@ -12,7 +12,9 @@ use Rattle.ds_cover.specs.Cuts.{cut_items, rest_items, within}
 use Rattle.ds_cover.specs.Items.{AreProper}
 use Rattle.ds_cover.proofs.Cutting.{cut-near, cut_items-positions, rest_items-positions}
 use Rattle.ds_cover.proofs.Exact.{none-out, out-none}
+use Rattle.ds_cover.specs.Origins.{CutsOf}
 use Rattle.ds_cover.proofs.Proper.{cuts-proper}
+use Rattle.ds_cover.proofs.Tracing.{cuts-of-all, stay-cuts}
 use Rattle.ds_cut.specs.Pieces.{piece_with, cut_piece, rest_part, items_in, ContainsSeek, CutsOff}
 
 never : {G : Type 0} {p : Piece} → ◌≡◌ {A = Option Piece} (Some p) None → G
@@ -36,6 +38,7 @@ either false cut rest ws p q = inr (p, q)
 pub cuts-off : (head : Head) (desc : RangeDesc) (part : Part) → AreProper part.items → ContainsSeek desc part → CutsOff desc.span part.items (cut_piece head desc part) (rest_part desc part).items
 cuts-off head desc part proper seek =
     let cut = cut_items desc.span part.items in
+    let kept = stay-cuts part.dir desc.span part.items part.items (cuts-of-all part.items) in
     let own : items_in (cut_piece head desc part) ≡ cut = its-items head desc.id part.dir cut in
     record {
       none = (
@@ -47,6 +50,8 @@ cuts-off head desc part proper seek =
           (ap (positions_at k) own ∙ cut_items-positions desc.span k part.items)
           (rest_items-positions part.dir desc.span k part.items (cut-near part.dir desc.span part.items seek));
       proper = subst AreProper (sym own) (cuts-proper (within desc.span) part.items proper);
+      its_cuts = subst (CutsOf part.items) (sym own) kept.0;
+      left_cuts = kept.1;
     }
 
 -- the same of what was cut and kept

@@ -17,7 +17,7 @@ use Rattle.ds_cut.specs.Seek.{near_end, first_met, first_over, ends_above, comes
 lt-of-not-le : (a b : List ℕ) → key_le a b ≡ false → key_lt b a ≡ true
 lt-of-not-le a b h = sym (not-key_le a b) ∙ ap not h
 
-next-le : (a b : List ℕ) → key_lt a b ≡ true → key_le (after a) b ≡ true
+pub next-le : (a b : List ℕ) → key_lt a b ≡ true → key_le (after a) b ≡ true
 next-le a b h = not_greater (key_cmp (after a) b) (after-above a b ∙ ap not h)
 
 after-le : (a b : List ℕ) → key_le a b ≡ true → key_le (after a) (after b) ≡ true
@@ -50,7 +50,7 @@ first-yes Reverse r q h =
     let b = (extent_of q).end in
     sym (ap (λ t. cond t b a) (not_lt_of_le b a (above-yes r q h)))
 
-greater : (a b : List ℕ) → key_le a b ≡ true → b ≡ max_key a b
+pub greater : (a b : List ℕ) → key_le a b ≡ true → b ≡ max_key a b
 greater a b h =
     elim (key_lt a b) as (λ t. key_lt a b ≡ t → b ≡ cond t b a) [
       | true ↦ λ e. refl

@@ -13,6 +13,7 @@ use Rattle.ds_kind.specs.declared.request.Request.TheVariants.{Scan}
 use Rattle.ds_cover.specs.Coverage.{positions_at}
 use Rattle.ds_cover.specs.Cuts.{cut_items, rest_items, seek_key}
 use Rattle.ds_cover.specs.Items.{AreProper}
+use Rattle.ds_cover.specs.Origins.{CutsOf}
 
 -- a piece of these items, if there are any
 abbrev pub piece_with : Head → ℕ → Dir → List Item → Option Piece
@@ -38,10 +39,13 @@ items_in (Some p) = p.items
 pub record CutsOff (span : Extent) (old : List Item) (cut : Option Piece) (new : List Item) : Type 0 where
   -- there is no piece exactly where no key of the span is left
   pub none : (cut ≡ None) ↔ ((k : List ℕ) → holds span.start span.end k ≡ true → positions_at k old ≡ [])
-  -- at each key one of the piece and the rest does all that was left, in order, and the other nothing
+  -- at each key one of the piece and the rest has the positions of all that was left there, in order, and the other none
   pub one : (k : List ℕ) → ((positions_at k (items_in cut) ≡ positions_at k old) × (positions_at k new ≡ [])) ⊎ ((positions_at k (items_in cut) ≡ []) × (positions_at k new ≡ positions_at k old))
   -- the piece's items may be cut again
   pub proper : AreProper (items_in cut)
+  -- what is in the piece, and what is left, is what was left before, cut, under the same positions and numbers
+  pub its_cuts : CutsOf old (items_in cut)
+  pub left_cuts : CutsOf old new
 
 no_piece : (head : Head) → piece_with head 7 Forward [] ≡ None
 no_piece head = refl

@@ -1,19 +1,22 @@
 //! What is still to be sent of a part.
-ghost use Rattle.std.specs.Prelude.{◌≡◌, ◌↔◌, [], None, IfOk, OnOk, OnErr};
+ghost use Rattle.std.specs.Prelude.{◌≡◌, ◌↔◌, true, [], None, IfOk, OnOk, OnErr};
 ghost use Rattle.std.specs.Option.{option_copied};
 ghost use Rattle.ds_cover.specs.Cuts.{seek_key};
 ghost use Rattle.ds_cover.specs.Items.{AreProper};
 ghost use Rattle.ds_cover.specs.Measures.{AllSpans};
 ghost use Rattle.ds_cut.specs.Pieces.{cut_piece, rest_part, piece_with, ContainsSeek, CutsOff};
+ghost use Rattle.ds_cut.specs.Within.{none_past};
 
 use crate::clip::{cut_to_span, rest_of};
 use crate::seek::seek_of;
 use crate::spans::spans_known;
-use ds_base::{Copies, Dir, Key};
+use crate::within::none_past;
+use ds_base::{Copies, Dir, Key, Span};
 use ds_desc::RangeDesc;
 use ds_kind::{Head, Items, Part, Piece};
 use std::alloc::{AllocError, Global};
 use std::marker::Model;
+use std::mem;
 
 /// What is still to be sent of a part. A contract sees it as a part: the items, cut to what is
 /// left of them, and the direction.
@@ -85,10 +88,29 @@ impl Cutter {
         spans_known(self.rest.as_slice());
     }
 
-    /// Cuts off what lies in the range: the requests cut to its span, in order, with their positions
-    /// and numbers. `None` exactly where no key of what is left lies in the span. Want of memory
-    /// leaves all as it was.
-    pub fn next(
+    // Whether nothing that is left reaches past the span on the far side.
+    fn is_within(&self, span: &Span) -> bool
+        ensures { result ≡ none_past self.now.dir span.now self.now.items }
+    {
+        none_past(self.dir, span, self.rest.as_slice())
+    }
+
+    // Moves all that is left into the piece, where nothing reaches past the range. It takes no memory.
+    fn take_all(&mut self, alloc: Global, head: &Head, desc: &RangeDesc) -> Option<Piece>
+        requires seek { ContainsSeek desc.now self.old }
+        requires within { none_past self.old.dir desc.now.span self.old.items ≡ true }
+        ensures piece { result ≡ cut_piece head.now desc.now self.old }
+        ensures rest { self.new ≡ rest_part desc.now self.old }
+        ensures meaning { CutsOff desc.now.span self.old.items result self.new.items }
+    {
+        self.seek = None;
+        let all = mem::replace(&mut self.rest, Items::new(alloc));
+        piece_of(*head, desc.id, self.dir, all)
+    }
+
+    // Cuts off what lies in the range, where something may be left: what is cut and what is left is
+    // copied, so that want of memory leaves all as it was.
+    fn cut_off(
         &mut self,
         alloc: Global,
         head: &Head,
@@ -106,5 +128,28 @@ impl Cutter {
         self.rest = rest;
         self.seek = seek;
         Ok(piece_of(*head, desc.id, self.dir, cut))
+    }
+
+    /// Cuts off what lies in the range: the requests cut to its span, in order, with their positions
+    /// and numbers. `None` exactly where no key of what is left lies in the span. Where nothing
+    /// reaches past the range, all of it is moved, and nothing copied. Want of memory leaves all as
+    /// it was.
+    pub fn next(
+        &mut self,
+        alloc: Global,
+        head: &Head,
+        desc: &RangeDesc,
+    ) -> Result<Option<Piece>, AllocError>
+        requires { ContainsSeek desc.now self.old }
+        ensures piece { IfOk result (λ piece. piece ≡ cut_piece head.now desc.now self.old) }
+        ensures rest { OnOk result (self.new ≡ rest_part desc.now self.old) }
+        ensures meaning { IfOk result (λ piece. CutsOff desc.now.span self.old.items piece self.new.items) }
+        ensures error { OnErr result (self.new ≡ self.old) }
+    {
+        if self.is_within(&desc.span) {
+            Ok(self.take_all(alloc, head, desc))
+        } else {
+            self.cut_off(alloc, head, desc)
+        }
     }
 }

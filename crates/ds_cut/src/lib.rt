@@ -2,12 +2,14 @@
 //!
 //! A [`Cutter`] holds what is still to be sent of a part. It tells at which key to look for a
 //! range, and cuts off what lies in the range that was found there. At each key, one of the piece
-//! and the rest has all that was left there, and the other nothing.
+//! and the rest has the positions of all that was left there, and the other none; and each item of
+//! both is one that was left, cut, under its own position and number.
 #![tactic(auto)]
 
 mod clip;
 mod cutter;
 mod seek;
 mod spans;
+mod within;
 
 pub use cutter::Cutter;

@@ -4,9 +4,9 @@ use Rattle.std.proofs.lemmas.List.{length-append}
 use Rattle.ds_base.specs.Order.{key_lt}
 use Rattle.ds_kind.specs.Bodies.{put_in_order, in_order, stands_at, those_at}
 use Rattle.ds_kind.specs.declared.batch.Item.{Item}
-use Rattle.ds_cover.specs.Items.{AllAfter as ItemsAfter, PositionsRise}
+use Rattle.ds_cover.specs.Items.{item_pos, AllAfter, PositionsRise}
 use Rattle.ds_gather.specs.Gathered.{wanted, pos_of, start_of, rows_in, keys_in, all_rows, all_keys, gathered, reply_of}
-use Rattle.ds_gather.specs.Places.{AllAfter, Rises, EachPlace, HasRoom, IsFresh, IsReady, wanted_in, change_at, handed, place_for, filled, reply_from}
+use Rattle.ds_gather.specs.Places.{wanted_pos, Rises, EachPlace, HasRoom, IsFresh, IsReady, wanted_in, change_at, handed, place_for, filled, reply_from}
 use Rattle.ds_gather.specs.declared.arrival.Arrival.{Arrival}
 use Rattle.ds_gather.specs.declared.place.Place.{Place}
 use Rattle.ds_gather.proofs.Joining.{assoc, all_nil, rows_push, keys_push}
@@ -174,7 +174,7 @@ first_wanted : (is : List Item) → wanted_in (map place_for is) ≡ map wanted 
 first_wanted [] = refl
 first_wanted (i ∷ is) = ap (λ ws. wanted i ∷ ws) (first_wanted is)
 
-after_items : (n : ℕ) (is : List Item) → ItemsAfter n is → AllAfter n (map wanted is)
+after_items : (n : ℕ) (is : List Item) → AllAfter item_pos n is → AllAfter wanted_pos n (map wanted is)
 after_items n [] all = tt
 after_items n (i ∷ is) all = (all.0, after_items n is all.1)
 

@@ -111,7 +111,7 @@ rows-in-order w got end s e none is chain lies =
     let give : Arrival → List Row = λ a. rows_in a.reply.body in
     let xs = in_order start_of (those_at pos_of w.pos got) in
     let same : all_of give (in_direction w.down xs) ≡ rows_in (joined w.empty (in_direction w.down xs)) =
-        sym (rows_all (in_direction w.down xs)) ∙ ap (λ b. rows_in (joined b (in_direction w.down xs))) (sym is) in
+    sym (rows_all (in_direction w.down xs)) ∙ ap (λ b. rows_in (joined b (in_direction w.down xs))) (sym is) in
     subst (InDirection w.down row_key) same
     (over-chain w.down row_key give end s e xs chain (lies-order w.down row_key give end (those_at pos_of w.pos got) lies)).0
 
@@ -123,6 +123,6 @@ keys-in-order w got end s e none is chain lies =
     let give : Arrival → List (List ℕ) = λ a. keys_in a.reply.body in
     let xs = in_order start_of (those_at pos_of w.pos got) in
     let same : all_of give (in_direction w.down xs) ≡ keys_in (joined w.empty (in_direction w.down xs)) =
-        sym (keys_all (in_direction w.down xs)) ∙ ap (λ b. keys_in (joined b (in_direction w.down xs))) (sym is) in
+    sym (keys_all (in_direction w.down xs)) ∙ ap (λ b. keys_in (joined b (in_direction w.down xs))) (sym is) in
     subst (InDirection w.down key_itself) same
     (over-chain w.down key_itself give end s e xs chain (lies-order w.down key_itself give end (those_at pos_of w.pos got) lies)).0

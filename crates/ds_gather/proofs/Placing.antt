@@ -5,7 +5,8 @@ use Rattle.std.specs.List.Sorted.{IsPartitionPoint, IsPartitionedBy}
 use Rattle.std.proofs.Math.ListN.{set}
 use Rattle.std.proofs.lemmas.Bool.Decides.{nat_tests}
 use Rattle.std.proofs.lemmas.List.Sums.{prefix_len_is}
-use Rattle.ds_gather.specs.Places.{AllAfter, NoneAt, Rises, wanted_in, change_at}
+use Rattle.ds_cover.specs.Items.{AllAfter}
+use Rattle.ds_gather.specs.Places.{NoneAt, Rises, wanted_in, wanted_pos, change_at}
 use Rattle.ds_gather.specs.declared.place.Place.{Place}
 
 -- a test that fails on all that follow one on which it fails
@@ -47,7 +48,7 @@ one_more n = omega arith
 
 -- positions
 
-after_none : (n m : ℕ) (ps : List Place) → n ≤ m → AllAfter m (wanted_in ps) → NonePass (λ p. nat_lt p.wanted.pos n) ps
+after_none : (n m : ℕ) (ps : List Place) → n ≤ m → AllAfter wanted_pos m (wanted_in ps) → NonePass (λ p. nat_lt p.wanted.pos n) ps
 after_none n m [] le all = tt
 after_none n m (p ∷ ps) le all = (high, after_none n m ps le all.1)
   where
@@ -65,7 +66,7 @@ rising_parts n [] r = tt
 rising_parts n (p ∷ ps) r = (λ e. after_none n p.wanted.pos ps (at_least n p.wanted.pos e) r.0, rising_parts n ps r.1)
 
 -- none of these is at the position
-none_there : (n m : ℕ) (f : Place → Place) (ps : List Place) → n ≤ m → AllAfter m (wanted_in ps) → map (change_at n f) ps ≡ ps
+none_there : (n m : ℕ) (f : Place → Place) (ps : List Place) → n ≤ m → AllAfter wanted_pos m (wanted_in ps) → map (change_at n f) ps ≡ ps
 none_there n m f [] le all = refl
 none_there n m f (p ∷ ps) le all =
     ap (λ t. cond t (f p) p ∷ map (change_at n f) ps) (ne_eqb p.wanted.pos n (λ e. let a : m < p.wanted.pos = all.0 in omega (arith, e, a, le)))
@@ -96,7 +97,7 @@ unchanged n f (p ∷ ps) none =
     ap (λ t. cond t (f p) p ∷ map (change_at n f) ps) none.0
     ∙ ap (λ zs. p ∷ zs) (unchanged n f ps none.1)
 
-none_after : (n m : ℕ) (ps : List Place) → n ≤ m → AllAfter m (wanted_in ps) → NoneAt n ps
+none_after : (n m : ℕ) (ps : List Place) → n ≤ m → AllAfter wanted_pos m (wanted_in ps) → NoneAt n ps
 none_after n m [] le all = tt
 none_after n m (p ∷ ps) le all = (ne_eqb p.wanted.pos n (λ e. let a : m < p.wanted.pos = all.0 in omega (arith, e, a, le)), none_after n m ps le all.1)
 

@@ -4,6 +4,7 @@ use Rattle.std.specs.List.{prefix_len}
 use Rattle.ds_kind.specs.Bodies.{those_at}
 use Rattle.ds_kind.specs.declared.batch.Item.{Item}
 use Rattle.ds_kind.specs.declared.reply.Reply.{Reply}
+use Rattle.ds_cover.specs.Items.{NumbersRise}
 use Rattle.ds_gather.specs.Roomy.{Roomy}
 use Rattle.ds_gather.specs.Gathered.{wanted, pos_of, rows_in, keys_in, all_rows, all_keys, in_direction, joined, resume_at}
 use Rattle.ds_gather.specs.declared.arrival.Arrival.{Arrival}
@@ -13,14 +14,12 @@ use Rattle.ds_gather.specs.declared.place.Place.{Place}
 abbrev pub wanted_in : List Place → List Wanted
 wanted_in ps = map (λ p. p.wanted) ps
 
-abbrev pub AllAfter : ℕ → List Wanted → Type 0
-AllAfter n [] = Unit {0}
-AllAfter n (w ∷ ws) = (n < w.pos) × AllAfter n ws
+abbrev pub wanted_pos : Wanted → ℕ
+wanted_pos w = w.pos
 
 -- each position is below the later ones
 abbrev pub Rises : List Wanted → Type 0
-Rises [] = Unit {0}
-Rises (w ∷ ws) = AllAfter w.pos ws × Rises ws
+Rises ws = NumbersRise wanted_pos ws
 
 abbrev pub EachPlace : (Place → Type 0) → List Place → Type 0
 EachPlace P [] = Unit {0}

@@ -1,5 +1,5 @@
-//! Each public call, on a part of one request.
-ghost use Rattle.std.specs.Prelude.{IfOk};
+//! Each public call, on parts of one request and of two.
+ghost use Rattle.std.specs.Prelude.{◌≡◌, IfOk};
 ghost use Rattle.ds_cover.specs.Items.{PositionsRise};
 
 use ds_base::{Dir, Key, Keys, Seq, Span, Stamp, Value};
@@ -20,13 +20,22 @@ fn key(alloc: Global, bytes: &[u8]) -> Result<Key, Fail> {
     Ok(Key::new(alloc, bytes).map_err(|_| "a key")?)
 }
 
-// The item with the request from the key of this byte up to the next.
-fn item(alloc: Global, op: Op, byte: u8) -> Result<Item, Fail> {
-    let start = key(alloc, &[byte])?;
-    let end = key(alloc, &[byte, 0])?;
+fn dir_of(op: Op) -> Dir {
+    match op {
+        Op::Back => Dir::Reverse,
+        Op::Scan | Op::Delete => Dir::Forward,
+    }
+}
+
+// The item at the position with the request from one key up to another.
+fn item(alloc: Global, op: Op, pos: u32, start: &[u8], end: &[u8]) -> Result<Item, Fail>
+    ensures { IfOk result (λ i. i.pos ≡ pos) }
+{
+    let start = key(alloc, start)?;
+    let end = key(alloc, end)?;
     Ok(Item {
-        pos: 0,
-        seq: Seq(0),
+        pos,
+        seq: Seq(pos),
         request: match op {
             Op::Scan => Request::Scan(ScanArgs { start, end }),
             Op::Back => Request::ReverseScan(ReverseScanArgs { start, end }),
@@ -35,21 +44,45 @@ fn item(alloc: Global, op: Op, byte: u8) -> Result<Item, Fail> {
     })
 }
 
+// A part of one request, from a up to z.
 fn part(alloc: Global, op: Op) -> Result<Part, Fail>
     ensures { IfOk result (λ p. PositionsRise p.items) }
 {
+    let one = item(alloc, op, 0, b"a", b"z")?;
     let mut items = Items::new(alloc);
-    items.push(alloc, item(alloc, op, b'a')?)?;
+    items.push(alloc, one)?;
+    Ok(Part {
+        items,
+        dir: dir_of(op),
+    })
+}
+
+// A part of a scan and a deletion, from a up to z.
+fn part_of_two(alloc: Global) -> Result<Part, Fail>
+    ensures { IfOk result (λ p. PositionsRise p.items) }
+{
+    let one = item(alloc, Op::Scan, 3, b"a", b"z")?;
+    let other = item(alloc, Op::Delete, 5, b"a", b"z")?;
+    let mut items = Items::new(alloc);
+    items.push(alloc, one)?;
+    items.push(alloc, other)?;
     Ok(Part {
         items,
         dir: Dir::Forward,
     })
 }
 
-fn piece(alloc: Global, op: Op, byte: u8) -> Result<Piece, Fail> {
-    let mut items = Items::new(alloc);
-    items.push(alloc, item(alloc, op, byte)?)?;
-    Ok(Piece {
+// Where the piece ends that starts at this byte.
+fn end_of(byte: u8) -> &'static [u8] {
+    match byte {
+        b'a' => b"b",
+        b'b' => b"c",
+        _ => b"z",
+    }
+}
+
+fn piece_with(items: Items, dir: Dir) -> Piece {
+    Piece {
         head: Head {
             at: Stamp(10),
             txn: None,
@@ -58,8 +91,22 @@ fn piece(alloc: Global, op: Op, byte: u8) -> Result<Piece, Fail> {
         },
         range: 1,
         items,
-        dir: Dir::Forward,
-    })
+        dir,
+    }
+}
+
+fn piece(alloc: Global, op: Op, byte: u8) -> Result<Piece, Fail> {
+    let mut items = Items::new(alloc);
+    items.push(alloc, item(alloc, op, 0, &[byte], end_of(byte))?)?;
+    Ok(piece_with(items, dir_of(op)))
+}
+
+// The deletion stands before the scan in the piece.
+fn piece_of_two(alloc: Global, byte: u8) -> Result<Piece, Fail> {
+    let mut items = Items::new(alloc);
+    items.push(alloc, item(alloc, Op::Delete, 5, &[byte], end_of(byte))?)?;
+    items.push(alloc, item(alloc, Op::Scan, 3, &[byte], end_of(byte))?)?;
+    Ok(piece_with(items, Dir::Forward))
 }
 
 // What one piece is answered: a row or a deleted key at the key of this byte.
@@ -87,6 +134,13 @@ fn answer(alloc: Global, op: Op, byte: u8, resume: Option<Span>) -> Result<Repli
     Ok(replies)
 }
 
+fn answer_of_two(alloc: Global, byte: u8) -> Result<Replies, Fail> {
+    let mut replies = answer(alloc, Op::Delete, byte, None)?;
+    let body = body(alloc, Op::Scan, byte)?;
+    replies.push(alloc, Reply { body, resume: None })?;
+    Ok(replies)
+}
+
 fn are_rows(rows: &[Row], want: &[u8]) -> bool {
     rows.len() == want.len()
         && rows
@@ -103,11 +157,18 @@ fn are_keys(keys: &[Key], want: &[u8]) -> bool {
             .all(|(key, byte)| key.bytes() == [*byte].as_slice())
 }
 
-fn shows(body: &Body, want: &[u8]) -> bool {
-    match body {
-        Body::Rows(rows) => are_rows(rows.as_slice(), want),
-        Body::Gone(keys) => are_keys(keys.as_slice(), want),
+fn shows(op: Op, body: &Body, want: &[u8]) -> bool {
+    match (op, body) {
+        (Op::Scan | Op::Back, Body::Rows(rows)) => are_rows(rows.as_slice(), want),
+        (Op::Delete, Body::Gone(keys)) => are_keys(keys.as_slice(), want),
         _ => false,
+    }
+}
+
+fn is_reply(op: Op, reply: Option<&Reply>, want: &[u8]) -> bool {
+    match reply {
+        Some(reply) => shows(op, &reply.body, want) && reply.resume.is_none(),
+        None => false,
     }
 }
 
@@ -119,20 +180,29 @@ fn gathers(alloc: Global, op: Op, order: &[u8], want: &[u8]) -> Result<bool, Fai
         gather.put(alloc, &piece, answer(alloc, op, *byte, None)?)?;
     }
     let replies = gather.take();
+    Ok(replies.len() == 1 && is_reply(op, replies.get(0), want))
+}
+
+// The same for both requests of a part.
+fn gathers_both(alloc: Global, order: &[u8], want: &[u8]) -> Result<bool, Fail> {
+    let mut gather = Gather::new(alloc, &part_of_two(alloc)?)?;
+    for byte in order {
+        let piece = piece_of_two(alloc, *byte)?;
+        gather.put(alloc, &piece, answer_of_two(alloc, *byte)?)?;
+    }
+    let replies = gather.take();
     Ok(
-        replies.len() == 1
-            && match replies.get(0) {
-                Some(reply) => shows(&reply.body, want) && reply.resume.is_none(),
-                None => false,
-            },
+        replies.len() == 2
+            && is_reply(Op::Scan, replies.get(0), want)
+            && is_reply(Op::Delete, replies.get(1), want),
     )
 }
 
-// Whether the one reply has a resume span from the key of these bytes.
-fn starts_again(replies: &Replies, bytes: &[u8]) -> bool {
+// Whether the one reply has a resume span from the first key up to the second.
+fn resumes(replies: &Replies, start: &[u8], end: &[u8]) -> bool {
     match replies.get(0) {
         Some(reply) => match &reply.resume {
-            Some(span) => span.start.bytes() == bytes,
+            Some(span) => span.start.bytes() == start && span.end.bytes() == end,
             None => false,
         },
         None => false,
@@ -152,6 +222,15 @@ fn each_order_gathers_the_same(rt: HostRuntime) -> Result<(), Fail> {
 }
 
 #[test]
+fn each_request_has_its_own(rt: HostRuntime) -> Result<(), Fail> {
+    for order in ORDERS {
+        assert!(rt; gathers_both(rt.alloc(), order, b"abc")?);
+    }
+    assert!(rt; gathers_both(rt.alloc(), b"", b"")?);
+    Ok(())
+}
+
+#[test]
 fn nothing_put_is_the_empty_reply(rt: HostRuntime) -> Result<(), Fail> {
     assert!(rt; gathers(rt.alloc(), Op::Scan, b"", b"")?);
     assert!(rt; gathers(rt.alloc(), Op::Delete, b"", b"")?);
@@ -163,9 +242,9 @@ fn a_resume_span_is_kept(rt: HostRuntime) -> Result<(), Fail> {
     let alloc = rt.alloc();
     let mut gather = Gather::new(alloc, &part(alloc, Op::Scan)?)?;
     let piece = piece(alloc, Op::Scan, b'a')?;
-    let span = Span::new(key(alloc, b"b")?, key(alloc, b"z")?).map_err(|_| "a span")?;
+    let span = Span::new(key(alloc, b"a\0")?, key(alloc, b"b")?).map_err(|_| "a span")?;
     gather.put(alloc, &piece, answer(alloc, Op::Scan, b'a', Some(span))?)?;
     let replies = gather.take();
-    assert!(rt; starts_again(&replies, b"b"));
+    assert!(rt; resumes(&replies, b"a\0", b"b"));
     Ok(())
 }

@@ -2,7 +2,7 @@ use Rattle.std.proofs.Common.{sym, subst}
 use Rattle.ds_cover.specs.Items.{AreProper}
 use Rattle.ds_cover.proofs.Proper.{rest-proper}
 use Rattle.ds_cut.proofs.Meaning.{cut-meaning}
-use Rattle.ds_cut.proofs.cutter.Cutter.next.Goals as goal
+use Rattle.ds_cut.proofs.cutter.Cutter.cut_off.Goals as goal
 
 pub seek_of-requires : goal.seek_of-requires
 seek_of-requires c =
