@@ -1,5 +1,6 @@
 -- What gathering must not give.
-use Rattle.std.proofs.Common.{◌≡◌, ℕ, ◌==◌, Bool, true, false, List, [], ◌∷◌, ◌++◌, None, pos, refl, sym, ap, ◌∙◌}
+use Rattle.std.proofs.Common.{◌≡◌, ℕ, ◌==◌, Bool, true, false, List, [], ◌∷◌, ◌++◌, Option, Some, None, pos, refl, sym, ap, ◌∙◌}
+use Rattle.ds_base.specs.Order.{Extent}
 use Rattle.ds_base.specs.declared.value.Value.TheVariants.{Int}
 use Rattle.ds_kind.specs.declared.reply.Reply.{Reply}
 use Rattle.ds_kind.specs.declared.reply.Row.{Row}
@@ -39,3 +40,20 @@ not_as_they_came h = differs h (first_begins 97) refl refl
 -- what came is not lost
 not_nothing : gathered (rising ∷ []) (came 97 ∷ []) ≡ record { body = Rows []; resume = None } ∷ [] → ⊥
 not_nothing h = differs h (first_begins 97) refl refl
+
+-- where an answer stopped without a row, its resume span is the reply's, whichever came first
+abbrev from_99 : Option Extent
+from_99 = Some (record { start = 99 ∷ []; end = 122 ∷ [] })
+
+abbrev stopped : Arrival
+stopped = record { pos = 0; start = 99 ∷ []; reply = record { body = Rows []; resume = from_99 } }
+
+the_resume_span_that_came : gathered (rising ∷ []) (came 97 ∷ stopped ∷ []) ≡ record { body = Rows (row_of 97); resume = from_99 } ∷ []
+the_resume_span_that_came = refl
+
+though_it_came_first : gathered (rising ∷ []) (stopped ∷ came 97 ∷ []) ≡ record { body = Rows (row_of 97); resume = from_99 } ∷ []
+though_it_came_first = refl
+
+-- and it is not another position's
+not_at_another_position : gathered (record { pos = 1; down = false; empty = Rows [] } ∷ []) (stopped ∷ []) ≡ record { body = Rows []; resume = None } ∷ []
+not_at_another_position = refl
