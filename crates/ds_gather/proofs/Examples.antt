@@ -1,5 +1,6 @@
 -- What gathering must not give, and cases of what its laws ask.
-use Rattle.std.proofs.Common.{◌≡◌, ℕ, ◌≤◌, ◌==◌, cond, arith, Bool, true, false, List, [], ◌∷◌, ◌++◌, None, pos, refl, sym, ap, ◌∙◌}
+use Rattle.std.proofs.Common.{◌≡◌, ℕ, ◌≤◌, ◌==◌, cond, arith, Bool, true, false, List, [], ◌∷◌, ◌++◌, Option, Some, None, pos, refl, sym, ap, ◌∙◌}
+use Rattle.ds_base.specs.Order.{Extent}
 use Rattle.ds_base.specs.declared.value.Value.TheVariants.{Int}
 use Rattle.ds_kind.specs.declared.reply.Reply.{Reply}
 use Rattle.ds_kind.specs.declared.reply.Row.{Row}
@@ -80,3 +81,20 @@ not_rising h = let low : false ≡ true = h.0.0 in cc
 -- a row of a past the span that ends there
 not_out_of_its_span : EachLies false row_key (λ a. rows_in a.reply.body) (λ a. 97 ∷ []) (came 97 ∷ []) → ⊥
 not_out_of_its_span h = let low : false ≡ true = h.2.0 in cc
+
+-- where an answer stopped without a row, its resume span is the reply's, whichever came first
+abbrev from_99 : Option Extent
+from_99 = Some (record { start = 99 ∷ []; end = 122 ∷ [] })
+
+abbrev stopped : Arrival
+stopped = record { pos = 0; start = 99 ∷ []; reply = record { body = Rows []; resume = from_99 } }
+
+the_resume_span_that_came : gathered (rising ∷ []) (came 97 ∷ stopped ∷ []) ≡ record { body = Rows (row_of 97); resume = from_99 } ∷ []
+the_resume_span_that_came = refl
+
+though_it_came_first : gathered (rising ∷ []) (stopped ∷ came 97 ∷ []) ≡ record { body = Rows (row_of 97); resume = from_99 } ∷ []
+though_it_came_first = refl
+
+-- and it is not another position's
+not_at_another_position : gathered (record { pos = 1; down = false; empty = Rows [] } ∷ []) (stopped ∷ []) ≡ record { body = Rows []; resume = None } ∷ []
+not_at_another_position = refl
