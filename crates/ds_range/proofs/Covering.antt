@@ -27,14 +27,14 @@ use Rattle.ds_range.proofs.Maps.{missing, key_eq_turned}
 
 -- more keys
 
-abbrev Within : List (List ℕ) → List (List ℕ) → Type 0
+abbrev pub Within : List (List ℕ) → List (List ℕ) → Type 0
 Within ks ls = (k : List ℕ) → has_key k ks ≡ true → has_key k ls ≡ true
 
 noted_within : (ks ls : List (List ℕ)) (k : List ℕ) (o : Option Written) → Within ks ls → IsNoted ks k o → IsNoted ls k o
 noted_within ks ls k None w h = tt
 noted_within ks ls k (Some v) w h = w k h
 
-covers_within : (ks ls : List (List ℕ)) (es : Cells) → Within ks ls → Covers ks es → Covers ls es
+pub covers_within : (ks ls : List (List ℕ)) (es : Cells) → Within ks ls → Covers ks es → Covers ls es
 covers_within ks ls [] w h = tt
 covers_within ks ls (p ∷ ps) w h = (noted_within ks ls p.0 (last_of p.1.history) w h.0, covers_within ks ls ps w h.1)
 

@@ -4,3 +4,6 @@ pub mod Held
 pub mod Maps
 pub mod Piecing
 pub mod Covering
+pub mod Dividing
+pub mod Joining
+pub mod Neighbours

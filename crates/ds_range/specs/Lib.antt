@@ -1,4 +1,5 @@
 pub mod Asks
 pub mod Covers
+pub mod Joins
 pub mod Keeps
 pub mod Serves

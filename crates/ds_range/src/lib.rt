@@ -3,9 +3,11 @@
 
 mod ask;
 mod change;
+mod join;
 mod keep;
 mod serve;
 mod settle;
+mod shape;
 mod state;
 #[cfg(test)]
 mod tests;

@@ -29,11 +29,11 @@ use std::marker::Model;
 /// by key.
 #[derive(Drop)]
 pub struct RangeState {
-    info: Info,
-    cells: BTreeMap<Key, Cell>,
+    pub(crate) info: Info,
+    pub(crate) cells: BTreeMap<Key, Cell>,
     // Keys among which are all that have writes of transactions; `None` where they aren't known. So a
     // transaction's end looks at these keys alone.
-    written: Option<Keys>,
+    pub(crate) written: Option<Keys>,
 }
 
 impl Model for RangeState {

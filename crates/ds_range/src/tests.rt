@@ -1,27 +1,38 @@
 //! Each public call, on one range.
+ghost use Rattle.std.specs.Prelude.{◌≡◌, true, [], ◌∷◌, OnOk, IfOk};
+ghost use Rattle.ds_base.specs.Order.{key_lt, bound, holds};
+ghost use Rattle.ds_rule.specs.World.{start_of, end_of, Fits};
+
 use crate::ask::Asked;
 use crate::serve::Applied;
 use crate::state::RangeState;
-use ds_base::{Key, Seq, Span, Stamp, TxnNo, Value};
+use ds_base::{Copies, Key, Seq, Span, Stamp, TxnNo, Value};
 use ds_desc::{Info, Lease, Nodes, RangeDesc};
 use ds_kind::kinds::{GetArgs, IncrementArgs};
 use ds_kind::{Body, Head, Item, Items, Piece, Request};
 use std::alloc::Global;
 use std::test::Fail;
 
-// All keys, at node 1.
-fn range(alloc: Global) -> Result<RangeState, Fail> {
+// The range of this span, at node 1.
+fn range_of(alloc: Global, start: Key, end: Key) -> Result<RangeState, Fail>
+    requires { key_lt start end ≡ true }
+    ensures { IfOk result (λ r. (r.info.desc.span ≡ record { start = start; end = end }) × (r.info.desc.generation ≡ 1) × (r.cells ≡ [])) }
+{
     let desc = RangeDesc {
         id: 1,
-        span: Span {
-            start: Key::least(alloc),
-            end: Key::bound(alloc)?,
-        },
+        span: Span { start, end },
         nodes: Nodes::of(alloc, &[1]),
         generation: 1,
     };
     let lease = Lease { node: 1, number: 1 };
     Ok(RangeState::new(alloc, Info { desc, lease }))
+}
+
+// All keys.
+fn range(alloc: Global) -> Result<RangeState, Fail>
+    ensures { IfOk result (λ r. (start_of r ≡ []) × (end_of r ≡ bound) × (r.info.desc.generation ≡ 1)) }
+{
+    range_of(alloc, Key::least(alloc), Key::bound(alloc)?)
 }
 
 fn head(txn: Option<TxnNo>) -> Head {
@@ -33,25 +44,28 @@ fn head(txn: Option<TxnNo>) -> Head {
     }
 }
 
-fn get(alloc: Global) -> Item {
+fn get_at(key: Key) -> Item {
     Item {
         pos: 0,
-        seq: Seq(0),
-        request: Request::Get(GetArgs {
-            key: Key::least(alloc),
-        }),
+        seq: Seq(1),
+        request: Request::Get(GetArgs { key }),
+    }
+}
+
+fn get(alloc: Global) -> Item {
+    get_at(Key::least(alloc))
+}
+
+fn increment_at(key: Key, by: i64) -> Item {
+    Item {
+        pos: 0,
+        seq: Seq(1),
+        request: Request::Increment(IncrementArgs { key, by }),
     }
 }
 
 fn increment(alloc: Global, by: i64) -> Item {
-    Item {
-        pos: 0,
-        seq: Seq(1),
-        request: Request::Increment(IncrementArgs {
-            key: Key::least(alloc),
-            by,
-        }),
-    }
+    increment_at(Key::least(alloc), by)
 }
 
 fn piece(alloc: Global, txn: Option<TxnNo>, item: Item) -> Result<Piece, Fail> {
@@ -156,5 +170,114 @@ fn intents_are_settled_after_a_write_was_taken_back(rt: HostRuntime) -> Result<(
     range.settle(alloc, TxnNo(1), Some(Stamp(10)))?;
     let asked = range.ask(alloc, &head(None), &get(alloc))?;
     assert!(rt; shows(asked, 5));
+    Ok(())
+}
+
+// The key of one zero byte.
+fn zero(alloc: Global) -> Result<Key, Fail>
+    ensures { IfOk result (λ k. k ≡ 0 ∷ []) }
+{
+    Ok(Key::least(alloc).after(alloc)?)
+}
+
+// A 4 of another client at the least key, and an intent of 5 at this one.
+fn write_both(alloc: Global, range: &mut RangeState, key: &Key) -> Result<(), Fail>
+    ensures { OnOk result (range.new.info ≡ range.old.info) }
+{
+    range.foreign(alloc, &Key::least(alloc), Stamp(1), Some(Value::Int(4)))?;
+    let piece = piece(alloc, Some(TxnNo(1)), increment_at(key.copy(alloc)?, 5))?;
+    range.apply(alloc, &piece)?;
+    Ok(())
+}
+
+// Whether the transaction 1 sees the number at the key.
+fn sees(alloc: Global, range: &RangeState, key: &Key, n: i64) -> Result<bool, Fail> {
+    let asked = range.ask(alloc, &head(Some(TxnNo(1))), &get_at(key.copy(alloc)?))?;
+    Ok(shows(asked, n))
+}
+
+#[test]
+fn a_range_is_split(rt: HostRuntime) -> Result<(), Fail> {
+    let alloc = rt.alloc();
+    let mut left = range(alloc)?;
+    let key = zero(alloc)?;
+    write_both(alloc, &mut left, &key)?;
+    let right = left.split(alloc, &key, 2)?;
+    assert!(rt; sees(alloc, &left, &Key::least(alloc), 4)?);
+    assert!(rt; sees(alloc, &right, &key, 5)?);
+    assert!(rt; right.info().desc.id == 2);
+    Ok(())
+}
+
+// A number of another client at a key of the range.
+fn put(alloc: Global, range: &mut RangeState, key: &Key, n: i64) -> Result<(), Fail>
+    requires fits { Fits (start_of range.old) range.old }
+    requires held { holds (start_of range.old) (end_of range.old) key.now ≡ true }
+    ensures fits { OnOk result (Fits (start_of range.new) range.new) }
+    ensures info { OnOk result (range.new.info ≡ range.old.info) }
+{
+    range.foreign(alloc, key, Stamp(1), Some(Value::Int(n)))?;
+    Ok(())
+}
+
+// Two numbers at two keys of a range.
+fn with_two(alloc: Global, range: &mut RangeState, low: &Key, high: &Key) -> Result<(), Fail>
+    requires fits { Fits (start_of range.old) range.old }
+    requires low_held { holds (start_of range.old) (end_of range.old) low.now ≡ true }
+    requires high_held { holds (start_of range.old) (end_of range.old) high.now ≡ true }
+    ensures fits { OnOk result (Fits (start_of range.new) range.new) }
+    ensures info { OnOk result (range.new.info ≡ range.old.info) }
+{
+    put(alloc, range, low, 1)?;
+    put(alloc, range, high, 2)
+}
+
+// The neighbours up to this key and from it on, which hold nothing.
+fn neighbours(alloc: Global, border: &Key) -> Result<(RangeState, RangeState), Fail>
+    requires above { key_lt [] border.now ≡ true }
+    requires below { key_lt border.now bound ≡ true }
+    ensures left { IfOk result (λ p. (p.0.info.desc.span ≡ record { start = []; end = border.now }) × (p.0.info.desc.generation ≡ 1) × (p.0.cells ≡ [])) }
+    ensures right { IfOk result (λ p. (p.1.info.desc.span ≡ record { start = border.now; end = bound }) × (p.1.info.desc.generation ≡ 1) × (p.1.cells ≡ [])) }
+{
+    let left = range_of(alloc, Key::least(alloc), border.copy(alloc)?)?;
+    let right = range_of(alloc, border.copy(alloc)?, Key::bound(alloc)?)?;
+    Ok((left, right))
+}
+
+#[test]
+fn the_left_contents_are_moved(rt: HostRuntime) -> Result<(), Fail> {
+    let alloc = rt.alloc();
+    let key = zero(alloc)?;
+    let (mut left, mut right) = neighbours(alloc, &key)?;
+    put(alloc, &mut left, &Key::least(alloc), 4)?;
+    with_two(alloc, &mut right, &key, &key.after(alloc)?)?;
+    assert!(rt; left.merge(alloc, right).is_ok());
+    assert!(rt; sees(alloc, &left, &Key::least(alloc), 4)?);
+    assert!(rt; sees(alloc, &left, &key, 1)?);
+    Ok(())
+}
+
+#[test]
+fn the_right_contents_are_moved(rt: HostRuntime) -> Result<(), Fail> {
+    let alloc = rt.alloc();
+    let key = zero(alloc)?;
+    let border = key.after(alloc)?;
+    let (mut left, mut right) = neighbours(alloc, &border)?;
+    with_two(alloc, &mut left, &Key::least(alloc), &key)?;
+    put(alloc, &mut right, &border, 4)?;
+    assert!(rt; left.merge(alloc, right).is_ok());
+    assert!(rt; sees(alloc, &left, &key, 2)?);
+    assert!(rt; sees(alloc, &left, &border, 4)?);
+    Ok(())
+}
+
+#[test]
+fn a_range_is_given_another_lease(rt: HostRuntime) -> Result<(), Fail> {
+    let alloc = rt.alloc();
+    let mut range = range(alloc)?;
+    let mut info = range.info().copy(alloc)?;
+    info.lease = Lease { node: 2, number: 2 };
+    range.place(info);
+    assert!(rt; range.info().lease.node == 2);
     Ok(())
 }
