@@ -1,4 +1,5 @@
-//! Tests of the public calls of the sender's parts: one file for each crate.
+//! Tests of the public calls of the sender's parts, one file for each crate, and of the records of
+//! transactions.
 #![tactic(auto)]
 
 #[cfg(test)]
@@ -13,5 +14,7 @@ mod iter_tests;
 mod lease_tests;
 #[cfg(test)]
 mod limit_tests;
+#[cfg(test)]
+mod records_tests;
 #[cfg(test)]
 mod retry_tests;
