@@ -1,5 +1,5 @@
 -- Worked examples of records by their numbers, some that hold and some that must not.
-use Rattle.std.proofs.Common.{◌≡◌, ◌<◌, Bool, true, not, List, [], ◌∷◌, Option, Some, None, refl, arith}
+use Rattle.std.proofs.Common.{◌≡◌, ◌<◌, true, not, List, [], ◌∷◌, Some, refl, arith}
 use Rattle.std.specs.Option.{is_some}
 use Rattle.ds_rule.specs.declared.record.RecordStatus.TheVariants.{Pending, Committed, Aborted}
 use Rattle.ds_rule.specs.declared.record.TxnRecord.{TxnRecord}

@@ -1,9 +1,9 @@
 -- A record found by its number and changed where it stands, and what keeps the numbers rising.
-use Rattle.std.proofs.Common.{◌≡◌, ℕ, zero, suc, ◌+◌, ◌-◌, ◌≤◌, ◌<◌, Bool, true, false, not, ◌&&◌, cond, List, [], ◌∷◌, ◌++◌, map, length, get_or, position, refl, sym, ap, ◌∙◌, subst, Option, Some, None, arith, nat_lt, ltb-true, ltb-false, ◌==◌}
+use Rattle.std.proofs.Common.{◌≡◌, ℕ, zero, suc, ◌+◌, ◌-◌, ◌≤◌, ◌<◌, Bool, true, false, not, cond, List, [], ◌∷◌, ◌++◌, map, length, get_or, position, refl, sym, ap, ◌∙◌, subst, Some, None, arith, nat_lt, ltb-true, ltb-false, ◌==◌}
 use Rattle.std.proofs.Math.ListN.{set}
-use Rattle.std.proofs.lemmas.Bool.{eq-eqb, ne_eqb, eqb-true, lt-ltb, le-ltb}
+use Rattle.std.proofs.lemmas.Bool.{eq-eqb, ne_eqb, lt-ltb, le-ltb}
 use Rattle.std.proofs.lemmas.List.Folds.{find_at}
-use Rattle.std.proofs.lemmas.List.Sums.{position_or_len_is, fails_before_first, passes_at_first}
+use Rattle.std.proofs.lemmas.List.Sums.{position_or_len_is}
 use Rattle.std.proofs.lemmas.Option.{get_or_from_slice_get, slice_get_within, slice_get-get_or, slice_get_past}
 use Rattle.std.specs.List.{find, position_or_len, slice_get}
 use Rattle.ds_base.proofs.SmallFacts.{none_some, some_none, some_same, lt_of, ge_of}
@@ -12,7 +12,7 @@ use Rattle.ds_cell.proofs.Ranks.{rises-up}
 use Rattle.ds_rule.specs.declared.record.RecordStatus.{RecordStatus}
 use Rattle.ds_rule.specs.declared.record.TxnRecord.{TxnRecord}
 use Rattle.ds_rule.specs.Moves.{with_last, with_last_after}
-use Rattle.ds_rule.specs.Records.{record_number, record_of, with_record, with_status, RisesIf, IsFirstFrom}
+use Rattle.ds_rule.specs.Records.{record_number, with_record, with_status, RisesIf, IsFirstFrom}
 
 -- ---- the first that passes, by its place
 
