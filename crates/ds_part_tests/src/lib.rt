@@ -1,4 +1,5 @@
-//! Tests of the public calls of the sender's parts and of the descriptors so far: one file for each crate.
+//! Tests of the public calls of the sender's parts, of the descriptors so far and of the records of
+//! transactions: one file for each crate.
 #![tactic(auto)]
 
 #[cfg(test)]
@@ -15,5 +16,7 @@ mod lease_tests;
 mod limit_tests;
 #[cfg(test)]
 mod lineage_tests;
+#[cfg(test)]
+mod records_tests;
 #[cfg(test)]
 mod retry_tests;

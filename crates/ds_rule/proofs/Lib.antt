@@ -5,6 +5,7 @@ pub mod Eachs
 pub mod Examples
 pub mod ExamplesOfJournals
 pub mod ExamplesOfPaths
+pub mod ExamplesOfRecords
 pub mod ExamplesOfShifts
 pub mod ExamplesOfStores
 pub mod Failing
@@ -13,6 +14,7 @@ pub mod Joining
 pub mod Kept
 pub mod Lifetime
 pub mod NeverEnded
+pub mod Numbered
 pub mod Own
 pub mod Puts
 pub mod Quiet

@@ -13,6 +13,7 @@ pub mod Moves
 pub mod Path
 pub mod Pieces
 pub mod Plain
+pub mod Records
 pub mod Shifts
 pub mod StandsFor
 pub mod Steady

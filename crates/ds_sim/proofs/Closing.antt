@@ -1,25 +1,61 @@
 -- How a block's calls change what a wire stands for.
-use Rattle.std.proofs.Common.{◌≡◌, ℕ, zero, suc, ◌-◌, ◌<◌, List, [], ◌∷◌, map, length, get_or, Option, Some, None, refl, ap, ◌∙◌, arith}
-use Rattle.std.proofs.Math.ListN.{set}
+use Rattle.std.proofs.Common.{◌≡◌, ℕ, true, List, [], ◌∷◌, map, Option, Some, None, refl, ap, ◌∙◌}
+use Rattle.std.specs.Option.{option_or}
 use Rattle.ds_base.specs.declared.value.Stamp.{Stamp}
+use Rattle.ds_kind.specs.declared.reply.TxnStatus.{TxnStatus}
+use Rattle.ds_kind.specs.declared.reply.TxnStatus.TheVariants as Says
 use Rattle.ds_cell.specs.Seen.{last_of}
+use Rattle.ds_cell.proofs.LatestFacts.{last_where-cons}
+use Rattle.ds_rule.specs.declared.record.RecordStatus.{RecordStatus}
+use Rattle.ds_rule.specs.declared.record.RecordStatus.TheVariants as Status
 use Rattle.ds_rule.specs.declared.record.TxnRecord.{TxnRecord}
 use Rattle.ds_rule.specs.World.{Range}
-use Rattle.ds_rule.specs.Close.{settle_range, settle_by, commit_of, closed}
-use Rattle.ds_rule.specs.Moves.{aborted, with_last, with_last_after}
+use Rattle.ds_rule.specs.Close.{settle_range, settle_by, commit_of, closed, said_status, status_of_last}
+use Rattle.ds_rule.specs.Moves.{aborted, aborted_status, with_last, with_last_after}
+use Rattle.ds_rule.specs.Records.{with_status}
 use Rattle.ds_sim.specs.State.{world_of}
 use Rattle.ds_sim.proofs.Delivering.{same_world}
 
-last_after : (t : TxnRecord) (ts : List TxnRecord) (i : ℕ) (old y : TxnRecord) → i ≡ length ts → old ≡ get_or (t ∷ ts) i old → y ≡ aborted old → set (t ∷ ts) i y ≡ with_last_after aborted t ts
-last_after t [] zero old y h at is = ap (λ z. z ∷ []) (is ∙ ap aborted at)
-last_after t [] (suc i) old y h at is = absurd (omega (arith, h))
-last_after t (u ∷ us) zero old y h at is = absurd (omega (arith, h))
-last_after t (u ∷ us) (suc i) old y h at is = ap (λ zs. t ∷ zs) (last_after u us i old y (omega (arith, h)) at is)
+same-after : (f g : TxnRecord → TxnRecord) (t : TxnRecord) (ts : List TxnRecord) → ((x : TxnRecord) → last_of (t ∷ ts) ≡ Some x → f x ≡ g x) → with_last_after f t ts ≡ with_last_after g t ts
+same-after f g t [] same = ap (λ z. z ∷ []) (same t refl)
+same-after f g t (u ∷ us) same =
+    ap (λ zs. t ∷ zs) (same-after f g u us (λ x e. same x (last_where-cons (λ _. true) t (u ∷ us) ∙ ap (λ o. option_or o (Some t)) e)))
 
--- the last record, ended where it stands
-pub set_last : (xs : List TxnRecord) (i : ℕ) (old y : TxnRecord) → i ≡ length xs - 1 → 0 < length xs → old ≡ get_or xs i old → y ≡ aborted old → set xs i y ≡ with_last aborted xs
-set_last [] i old y here some at is = absurd (omega arith)
-set_last (t ∷ ts) i old y here some at is = last_after t ts i old y (omega (arith, here)) at is
+kept-after : (f : TxnRecord → TxnRecord) (t : TxnRecord) (ts : List TxnRecord) → ((x : TxnRecord) → last_of (t ∷ ts) ≡ Some x → x ≡ f x) → t ∷ ts ≡ with_last_after f t ts
+kept-after f t [] same = ap (λ z. z ∷ []) (same t refl)
+kept-after f t (u ∷ us) same =
+    ap (λ zs. t ∷ zs) (kept-after f u us (λ x e. same x (last_where-cons (λ _. true) t (u ∷ us) ∙ ap (λ o. option_or o (Some t)) e)))
+
+-- a record that is committed ends as it stands
+pub ends_committed : (ts : List TxnRecord) → Says.Committed ≡ status_of_last (last_of ts) → ts ≡ with_last aborted ts
+ends_committed [] says = refl
+ends_committed (t ∷ ts) says = kept-after aborted t ts (λ x e. ap (λ s. record x { status = s }) (stays x.status (says ∙ ap status_of_last e)))
+  where
+    stays : (s : RecordStatus) → Says.Committed ≡ said_status s → s ≡ aborted_status s
+    stays Status.Pending h = cc
+    stays Status.Committed h = refl
+    stays Status.Aborted h = refl
+    stays (Status.Staging fs) h = cc
+
+ends_other : (ts : List TxnRecord) (said : TxnStatus) → (said ≡ Says.Committed → ⊥) → said ≡ status_of_last (last_of ts) → with_last (with_status Status.Aborted) ts ≡ with_last aborted ts
+ends_other [] said other says = refl
+ends_other (t ∷ ts) said other says = same-after (with_status Status.Aborted) aborted t ts (λ x e. ap (λ s. record x { status = s }) (falls x.status (says ∙ ap status_of_last e)))
+  where
+    falls : (s : RecordStatus) → said ≡ said_status s → Status.Aborted ≡ aborted_status s
+    falls Status.Pending h = refl
+    falls Status.Committed h = absurd (other h)
+    falls Status.Aborted h = refl
+    falls (Status.Staging fs) h = refl
+
+-- any other becomes aborted
+pub ends_aborted : (ts : List TxnRecord) → Says.Aborted ≡ status_of_last (last_of ts) → with_last (with_status Status.Aborted) ts ≡ with_last aborted ts
+ends_aborted ts says = ends_other ts Says.Aborted (λ e. cc) says
+
+pub ends_unknown : (ts : List TxnRecord) → Says.Unknown ≡ status_of_last (last_of ts) → with_last (with_status Status.Aborted) ts ≡ with_last aborted ts
+ends_unknown ts says = ends_other ts Says.Unknown (λ e. cc) says
+
+pub ends_staging : (ts : List TxnRecord) → Says.Staging ≡ status_of_last (last_of ts) → with_last (with_status Status.Aborted) ts ≡ with_last aborted ts
+ends_staging ts says = ends_other ts Says.Staging (λ e. cc) says
 
 settled_descs : (txn : ℕ) (commit : Option Stamp) (rs : List Range) → map (λ r. r.info.desc) (map (settle_range txn commit) rs) ≡ map (λ r. r.info.desc) rs
 settled_descs txn commit [] = refl

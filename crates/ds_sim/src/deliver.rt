@@ -1,6 +1,6 @@
 //! A piece delivered to a node.
 ghost use Rattle.std.specs.Prelude.{◌≡◌, ◌==◌, ◌++◌, ◌∷◌, [], Some, find, position, IfOk, OnErr};
-ghost use Rattle.std.specs.Option.{option_copied, option_map};
+ghost use Rattle.std.specs.Option.{option_map};
 ghost use Rattle.std.specs.List.{slice_get};
 ghost use Rattle.ds_rule.specs.declared.journal.JournalStep.TheVariants.{Send};
 ghost use Rattle.ds_rule.specs.Asking.{txn_of, ask_all};
@@ -13,7 +13,7 @@ use ds_base::{Copies, TxnNo};
 use ds_desc::Refusal;
 use ds_kind::{Failure, Head, Piece};
 use ds_range::{Applied, RangeState};
-use ds_rule::{Answer, JournalStep, JournalSteps, RecordStatus, TxnRecord};
+use ds_rule::{Answer, JournalStep, JournalSteps, RecordStatus, Records};
 use std::alloc::{AllocError, Global};
 
 /// The number of the transaction that a piece is of, 0 without one.
@@ -26,17 +26,11 @@ fn txn_of(head: &Head) -> TxnNo
     }
 }
 
-fn record_of(records: &[TxnRecord], txn: TxnNo) -> Option<&TxnRecord>
-    ensures { option_copied result ≡ find (λ t. t.txn.0 == txn.0) records.now }
-{
-    records.iter().find(|record| record.txn.0 == txn.0)
-}
-
 /// A record that is committed or aborted takes no more pieces.
-fn stopped_by(records: &[TxnRecord], txn: TxnNo) -> Option<Failure>
+fn stopped_by(records: &Records, txn: TxnNo) -> Option<Failure>
     ensures { result ≡ status_stops (find (λ t. t.txn.0 == txn.0) records.now) }
 {
-    match record_of(records, txn) {
+    match records.find(txn) {
         Some(record) => match record.status {
             RecordStatus::Committed => Some(Failure::Committed),
             RecordStatus::Aborted => Some(Failure::Aborted),
@@ -64,7 +58,7 @@ fn turned_by(
     alloc: Global,
     range: &RangeState,
     ranges: &[RangeState],
-    records: &[TxnRecord],
+    records: &Records,
     node: u8,
     piece: &Piece,
 ) -> Result<Option<Answer>, AllocError>
@@ -152,7 +146,7 @@ fn deliver_at(
     alloc: Global,
     ranges: &mut Vec<RangeState>,
     i: usize,
-    records: &[TxnRecord],
+    records: &Records,
     node: u8,
     piece: &Piece,
     steps: &mut JournalSteps,
@@ -176,7 +170,7 @@ fn deliver_at(
 pub(crate) fn deliver_to(
     alloc: Global,
     ranges: &mut Vec<RangeState>,
-    records: &[TxnRecord],
+    records: &Records,
     node: u8,
     piece: &Piece,
     steps: &mut JournalSteps,

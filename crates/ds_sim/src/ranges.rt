@@ -18,7 +18,7 @@ use ds_base::{Dir, Key, Stamp, TxnNo, Value};
 use ds_desc::Infos;
 use ds_kind::Piece;
 use ds_range::RangeState;
-use ds_rule::{Answer, ClusterRange, JournalSteps, TxnRecord};
+use ds_rule::{Answer, ClusterRange, JournalSteps, Records};
 use std::alloc::{AllocError, Global};
 use std::marker::Model;
 
@@ -101,7 +101,7 @@ impl Ranges {
     pub fn deliver(
         &mut self,
         alloc: Global,
-        records: &[TxnRecord],
+        records: &Records,
         node: u8,
         piece: &Piece,
         steps: &mut JournalSteps,

@@ -1,6 +1,6 @@
 //! The records of transactions, and how the last one ends.
-ghost use Rattle.std.specs.Prelude.{◌≡◌, ◌<◌, ◌-◌, length, OnOk};
-ghost use Rattle.std.specs.Option.{option_copied, option_map};
+ghost use Rattle.std.specs.Prelude.{◌≡◌, OnOk};
+ghost use Rattle.std.specs.Option.{option_map};
 ghost use Rattle.ds_cell.specs.Seen.{last_of};
 ghost use Rattle.ds_rule.specs.Close.{status_of_last, commit_of, settle_by, said_status};
 ghost use Rattle.ds_rule.specs.Moves.{aborted, with_last};
@@ -8,14 +8,8 @@ ghost use Rattle.ds_rule.specs.Moves.{aborted, with_last};
 use crate::ranges::Ranges;
 use ds_base::{Stamp, TxnNo};
 use ds_kind::TxnStatus;
-use ds_rule::{RecordStatus, TxnRecord};
+use ds_rule::{RecordStatus, Records, TxnRecord};
 use std::alloc::{AllocError, Global};
-
-fn last_record(records: &[TxnRecord]) -> Option<&TxnRecord>
-    ensures { option_copied result ≡ last_of records.now }
-{
-    records.iter().rev().find(|_| true)
-}
 
 /// What a transaction that is closed now ends with.
 fn said_status(status: &RecordStatus) -> TxnStatus
@@ -30,10 +24,10 @@ fn said_status(status: &RecordStatus) -> TxnStatus
 }
 
 /// The status that the open transaction, whose record is the last, ends with.
-pub(crate) fn last_status(records: &[TxnRecord]) -> TxnStatus
+pub(crate) fn last_status(records: &Records) -> TxnStatus
     ensures { result ≡ status_of_last (last_of records.now) }
 {
-    match last_record(records) {
+    match records.last() {
         Some(last) => said_status(&last.status),
         None => TxnStatus::Aborted,
     }
@@ -50,10 +44,10 @@ fn commit_of(last: &TxnRecord) -> Option<Stamp>
 }
 
 /// The open transaction, and the stamp at which its writes become versions, if they do.
-fn to_settle(records: &[TxnRecord]) -> Option<(TxnNo, Option<Stamp>)>
+fn to_settle(records: &Records) -> Option<(TxnNo, Option<Stamp>)>
     ensures { result ≡ option_map (λ t. (t.txn, commit_of t.status t.stamp)) (last_of records.now) }
 {
-    match last_record(records) {
+    match records.last() {
         Some(last) => Some((last.txn, commit_of(last))),
         None => None,
     }
@@ -63,7 +57,7 @@ fn to_settle(records: &[TxnRecord]) -> Option<(TxnNo, Option<Stamp>)>
 pub(crate) fn settle_last(
     alloc: Global,
     ranges: &mut Ranges,
-    records: &[TxnRecord],
+    records: &Records,
 ) -> Result<(), AllocError>
     ensures { OnOk result (ranges.new ≡ settle_by (last_of records.now) ranges.old) }
 {
@@ -73,26 +67,15 @@ pub(crate) fn settle_last(
     }
 }
 
-/// Ends a record: one that is not committed becomes aborted.
-fn end(ended: &mut TxnRecord)
-    ensures { ended.new ≡ aborted ended.old }
+/// Ends the last record: one that is not committed becomes aborted.
+#[tactic(auto, using(crate::proofs::Closing::ends_committed, crate::proofs::Closing::ends_aborted, crate::proofs::Closing::ends_unknown, crate::proofs::Closing::ends_staging))]
+pub(crate) fn end_last(records: &mut Records)
+    ensures { records.new ≡ with_last aborted records.old }
 {
-    match ended.status {
-        RecordStatus::Committed => {}
-        RecordStatus::Pending | RecordStatus::Aborted | RecordStatus::Staging(_) => {
-            ended.status = RecordStatus::Aborted;
+    match last_status(records) {
+        TxnStatus::Committed => {}
+        TxnStatus::Aborted | TxnStatus::Unknown | TxnStatus::Staging => {
+            records.set_last_status(RecordStatus::Aborted);
         }
     }
-}
-
-/// Ends the last record.
-pub(crate) fn end_last(records: &mut Vec<TxnRecord>)
-    ensures { (records.new).items ≡ with_last aborted (records.old).items }
-{
-    let count = records.len();
-    if count == 0 {
-        return;
-    }
-    let last = &mut records[count - 1];
-    end(last);
 }

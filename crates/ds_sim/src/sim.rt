@@ -137,11 +137,9 @@ impl Sim {
         ensures status { IfOk result (λ s. s ≡ close_status (state_of self.old).world) }
         ensures closed { IfOk result (λ s. state_of self.new ≡ record (state_of self.old) { world = closed (state_of self.old).world }) }
     {
-        let status = last_status(self.records.as_slice());
-        settle_last(alloc, &mut self.ranges, self.records.as_slice())?;
-        let mut records = mem::replace(&mut self.records, Records::new(alloc)).into_vec();
-        end_last(&mut records);
-        self.records = Records::from_vec(records);
+        let status = last_status(&self.records);
+        settle_last(alloc, &mut self.ranges, &self.records)?;
+        end_last(&mut self.records);
         Ok(status)
     }
 }
@@ -169,13 +167,9 @@ impl Wire for Sim {
     ghost state = { state_of };
 
     fn send(&mut self, alloc: Global, node: u8, piece: &Piece) -> Result<Answer, AllocError> {
-        let answer = self.ranges.deliver(
-            alloc,
-            self.records.as_slice(),
-            node,
-            piece,
-            &mut self.steps,
-        )?;
+        let answer = self
+            .ranges
+            .deliver(alloc, &self.records, node, piece, &mut self.steps)?;
         self.refused = refused_after(&answer, self.refused);
         Ok(answer)
     }

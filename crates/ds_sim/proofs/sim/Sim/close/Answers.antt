@@ -10,5 +10,5 @@ pub returns-clause-closed : goal.returns-clause-closed
 returns-clause-closed c =
     let s = c.args.self.now in
     let settled : c.settle_last.new.ranges ≡ settle_by (last_of c.args.self.now.records) c.args.self.now.ranges = search rules in
-    let ends : c.from_vec.result ≡ with_last aborted c.args.self.now.records = search rules in
-    ap (λ w. stands_for w s.steps s.floor.0 s.refused) (closed_world s.ranges c.settle_last.new.ranges s.records c.from_vec.result s.count settled ends)
+    let ends : c.end_last.new.records ≡ with_last aborted c.args.self.now.records = search rules in
+    ap (λ w. stands_for w s.steps s.floor.0 s.refused) (closed_world s.ranges c.settle_last.new.ranges s.records c.end_last.new.records s.count settled ends)
