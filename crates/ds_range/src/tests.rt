@@ -14,9 +14,12 @@ use std::alloc::Global;
 use std::test::Fail;
 
 // The range of this span, at node 1.
+#[tactic(auto, using(crate::proofs::Neighbours::new_fits))]
 fn range_of(alloc: Global, start: Key, end: Key) -> Result<RangeState, Fail>
     requires { key_lt start end ≡ true }
-    ensures { IfOk result (λ r. (r.info.desc.span ≡ record { start = start; end = end }) × (r.info.desc.generation ≡ 1) × (r.cells ≡ [])) }
+    ensures fits { IfOk result (λ r. Fits (start_of r) r) }
+    ensures span { IfOk result (λ r. r.info.desc.span ≡ record { start = start; end = end }) }
+    ensures generation { IfOk result (λ r. r.info.desc.generation ≡ 1) }
 {
     let desc = RangeDesc {
         id: 1,
@@ -30,9 +33,11 @@ fn range_of(alloc: Global, start: Key, end: Key) -> Result<RangeState, Fail>
 
 // All keys.
 fn range(alloc: Global) -> Result<RangeState, Fail>
-    ensures { IfOk result (λ r. (start_of r ≡ []) × (end_of r ≡ bound) × (r.info.desc.generation ≡ 1)) }
+    ensures span { IfOk result (λ r. r.info.desc.span ≡ record { start = []; end = bound }) }
+    ensures generation { IfOk result (λ r. r.info.desc.generation ≡ 1) }
 {
-    range_of(alloc, Key::least(alloc), Key::bound(alloc)?)
+    let range = range_of(alloc, Key::least(alloc), Key::bound(alloc)?)?;
+    Ok(range)
 }
 
 fn head(txn: Option<TxnNo>) -> Head {
@@ -220,54 +225,58 @@ fn put(alloc: Global, range: &mut RangeState, key: &Key, n: i64) -> Result<(), F
     Ok(())
 }
 
-// Two numbers at two keys of a range.
-fn with_two(alloc: Global, range: &mut RangeState, low: &Key, high: &Key) -> Result<(), Fail>
-    requires fits { Fits (start_of range.old) range.old }
-    requires low_held { holds (start_of range.old) (end_of range.old) low.now ≡ true }
-    requires high_held { holds (start_of range.old) (end_of range.old) high.now ≡ true }
-    ensures fits { OnOk result (Fits (start_of range.new) range.new) }
-    ensures info { OnOk result (range.new.info ≡ range.old.info) }
+// The range of this span with a 1 at the low key, and a 2 at the high one if it is another.
+fn filled(alloc: Global, start: Key, end: Key, low: &Key, high: &Key) -> Result<RangeState, Fail>
+    requires span { key_lt start end ≡ true }
+    requires low { holds start end low.now ≡ true }
+    requires high { holds start end high.now ≡ true }
+    ensures fits { IfOk result (λ r. Fits (start_of r) r) }
+    ensures span { IfOk result (λ r. r.info.desc.span ≡ record { start = start; end = end }) }
+    ensures generation { IfOk result (λ r. r.info.desc.generation ≡ 1) }
 {
-    put(alloc, range, low, 1)?;
-    put(alloc, range, high, 2)
+    let mut range = range_of(alloc, start, end)?;
+    put(alloc, &mut range, low, 1)?;
+    put(alloc, &mut range, high, 2)?;
+    Ok(range)
 }
 
-// The neighbours up to this key and from it on, which hold nothing.
-fn neighbours(alloc: Global, border: &Key) -> Result<(RangeState, RangeState), Fail>
-    requires above { key_lt [] border.now ≡ true }
-    requires below { key_lt border.now bound ≡ true }
-    ensures left { IfOk result (λ p. (p.0.info.desc.span ≡ record { start = []; end = border.now }) × (p.0.info.desc.generation ≡ 1) × (p.0.cells ≡ [])) }
-    ensures right { IfOk result (λ p. (p.1.info.desc.span ≡ record { start = border.now; end = bound }) × (p.1.info.desc.generation ≡ 1) × (p.1.cells ≡ [])) }
+// Whether two neighbours could be merged, and the left one after it.
+#[tactic(auto, using(crate::proofs::Neighbours::fits_at))]
+fn merged(alloc: Global, left: RangeState, right: RangeState) -> (bool, RangeState)
+    requires left { Fits (start_of left) left }
+    requires right { Fits (start_of right) right }
+    requires border { end_of left ≡ start_of right }
+    requires generation { left.info.desc.generation ≡ 1 }
+    requires right_generation { right.info.desc.generation ≡ 1 }
 {
-    let left = range_of(alloc, Key::least(alloc), border.copy(alloc)?)?;
-    let right = range_of(alloc, border.copy(alloc)?, Key::bound(alloc)?)?;
-    Ok((left, right))
+    let mut left = left;
+    let is_ok = left.merge(alloc, right).is_ok();
+    (is_ok, left)
 }
 
 #[test]
 fn the_left_contents_are_moved(rt: HostRuntime) -> Result<(), Fail> {
     let alloc = rt.alloc();
-    let key = zero(alloc)?;
-    let (mut left, mut right) = neighbours(alloc, &key)?;
-    put(alloc, &mut left, &Key::least(alloc), 4)?;
-    with_two(alloc, &mut right, &key, &key.after(alloc)?)?;
-    assert!(rt; left.merge(alloc, right).is_ok());
-    assert!(rt; sees(alloc, &left, &Key::least(alloc), 4)?);
-    assert!(rt; sees(alloc, &left, &key, 1)?);
+    let (least, key) = (Key::least(alloc), zero(alloc)?);
+    let next = key.after(alloc)?;
+    let left = filled(alloc, Key::least(alloc), key.copy(alloc)?, &least, &least)?;
+    let right = filled(alloc, key.copy(alloc)?, Key::bound(alloc)?, &key, &next)?;
+    let (is_ok, range) = merged(alloc, left, right);
+    assert!(rt; is_ok);
+    assert!(rt; sees(alloc, &range, &least, 1)? && sees(alloc, &range, &next, 2)?);
     Ok(())
 }
 
 #[test]
 fn the_right_contents_are_moved(rt: HostRuntime) -> Result<(), Fail> {
     let alloc = rt.alloc();
-    let key = zero(alloc)?;
-    let border = key.after(alloc)?;
-    let (mut left, mut right) = neighbours(alloc, &border)?;
-    with_two(alloc, &mut left, &Key::least(alloc), &key)?;
-    put(alloc, &mut right, &border, 4)?;
-    assert!(rt; left.merge(alloc, right).is_ok());
-    assert!(rt; sees(alloc, &left, &key, 2)?);
-    assert!(rt; sees(alloc, &left, &border, 4)?);
+    let (least, key) = (Key::least(alloc), zero(alloc)?);
+    let next = key.after(alloc)?;
+    let left = filled(alloc, Key::least(alloc), next.copy(alloc)?, &least, &key)?;
+    let right = filled(alloc, next.copy(alloc)?, Key::bound(alloc)?, &next, &next)?;
+    let (is_ok, range) = merged(alloc, left, right);
+    assert!(rt; is_ok);
+    assert!(rt; sees(alloc, &range, &key, 2)? && sees(alloc, &range, &next, 1)?);
     Ok(())
 }
 
