@@ -15,7 +15,7 @@ use Rattle.ds_cache.proofs.Serials.{at_head, at_tail, none_later, distinct_tail,
 abbrev no_entries : List Entry
 no_entries = []
 
-none_distinct : IsDistinct nat_eq (keys_of no_entries)
+pub none_distinct : IsDistinct nat_eq (keys_of no_entries)
 unfolding IsDistinct
 none_distinct = tt
 
