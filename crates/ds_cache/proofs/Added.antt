@@ -15,7 +15,7 @@ use Rattle.ds_cache.proofs.Serials.{at_head, at_tail, none_later, distinct_tail,
 abbrev no_entries : List Entry
 no_entries = []
 
-none_distinct : IsDistinct nat_eq (keys_of no_entries)
+pub none_distinct : IsDistinct nat_eq (keys_of no_entries)
 unfolding IsDistinct
 none_distinct = tt
 
@@ -56,7 +56,7 @@ trimmed n m es e s d l low high h is =
 
 -- ---- the entries that are left
 
-at_clear : (i : Info) (t : ℕ) (j : Info) (es : List Entry) → IsDistinct nat_eq (keys_of es) → at_serial t (clear_of i es) ≡ Some j → (at_serial t es ≡ Some j) × (overlap i.desc.span j.desc.span ≡ false)
+pub at_clear : (i : Info) (t : ℕ) (j : Info) (es : List Entry) → IsDistinct nat_eq (keys_of es) → at_serial t (clear_of i es) ≡ Some j → (at_serial t es ≡ Some j) × (overlap i.desc.span j.desc.span ≡ false)
 at_clear i t j [] d h = absurd (some_none j (sym h))
 at_clear i t j (e ∷ es) d h =
     (elim (overlap i.desc.span e.1.desc.span) as (λ u. overlap i.desc.span e.1.desc.span ≡ u → (at_serial t (e ∷ es) ≡ Some j) × (overlap i.desc.span j.desc.span ≡ false)) [
@@ -99,7 +99,7 @@ take_none : (n : ℕ) → take n no_entries ≡ no_entries
 take_none zero = refl
 take_none (suc n) = refl
 
-at_take : (n t : ℕ) (j : Info) (es : List Entry) → at_serial t (take n es) ≡ Some j → at_serial t es ≡ Some j
+pub at_take : (n t : ℕ) (j : Info) (es : List Entry) → at_serial t (take n es) ≡ Some j → at_serial t es ≡ Some j
 at_take n t j [] h = absurd (some_none j (sym h ∙ ap (at_serial t) (take_none n)))
 at_take zero t j (e ∷ es) h = absurd (some_none j (sym h))
 at_take (suc n) t j (e ∷ es) h =

@@ -1,11 +1,13 @@
 -- Worked examples of the definitions: what overlaps, what is found, and what an insertion does.
-use Rattle.std.proofs.Common.{◌≡◌, ℕ, true, false, [], ◌∷◌, Some, None, refl}
+use Rattle.std.proofs.Common.{◌≡◌, ℕ, true, false, List, [], ◌∷◌, Some, None, refl, arith}
 use Rattle.ds_base.specs.declared.value.Dir.TheVariants.{Forward, Reverse}
 use Rattle.ds_desc.specs.declared.desc.Info.{Info}
 use Rattle.ds_cache.specs.declared.inserted.Inserted.TheVariants.{Older, Renewed, Added, Spent}
 use Rattle.ds_desc.specs.Descs.{overlap}
-use Rattle.ds_cache.specs.Entries.{Cache, cache, found, fronted, without}
-use Rattle.ds_cache.specs.Insert.{put_in, with_lease, leased, is_later_than}
+use Rattle.ds_base.proofs.SmallFacts.{none_some}
+use Rattle.ds_cache.specs.Entries.{Entry, Cache, cache, found, fronted, without, NoOverlap, IsSound, IsIndex}
+use Rattle.ds_cache.specs.Insert.{put_in, with_lease, leased, is_later_than, PutFrom}
+use Rattle.ds_cache.proofs.Added.{none_distinct}
 
 -- the range from one byte up to another, of this generation, with this number of its lease
 abbrev range : ℕ → ℕ → ℕ → ℕ → Info
@@ -89,3 +91,38 @@ one_entry_is_taken_out = refl
 
 the_serial_0_takes_out_none : without 0 two.entries ≡ two.entries
 the_serial_0_takes_out_none = refl
+
+-- ---- what every cache keeps
+
+an_empty_cache_is_sound : IsSound (cache [] 1 0)
+an_empty_cache_is_sound = record {
+  apart = λ s t a b p q o. none_some a p;
+  spans = λ s i p. none_some i p;
+  serials = λ s i p. none_some i p;
+  distinct = none_distinct;
+  fits = omega arith;
+  some = omega arith;
+}
+
+abbrev overlapping : List Entry
+overlapping = (2, range 98 100 1 1) ∷ (1, range 97 99 1 1) ∷ []
+
+two_that_overlap_are_not_apart : NoOverlap overlapping → ⊥
+two_that_overlap_are_not_apart h = let one : 2 ≡ 1 = h 2 1 (range 98 100 1 1) (range 97 99 1 1) refl refl refl in omega (arith, one)
+
+nor_is_their_cache_sound : IsSound (cache overlapping 2 2) → ⊥
+nor_is_their_cache_sound s = two_that_overlap_are_not_apart s.apart
+
+abbrev only : List Entry
+only = (1, range 97 99 1 1) ∷ []
+
+an_index_without_a_start : IsIndex only [] → ⊥
+an_index_without_a_start x = none_some 1 (x.each 1 (range 97 99 1 1) refl)
+
+an_index_with_a_start_that_is_gone : IsIndex [] ((97 ∷ [], 1) ∷ []) → ⊥
+an_index_with_a_start_that_is_gone x = let on = x.only (97 ∷ []) 1 refl in none_some on.0 on.1
+
+-- ---- rows, after want of memory
+
+the_last_row_went_in : PutFrom (range 97 98 1 1 ∷ range 98 99 1 1 ∷ []) (cache [] 2 0) (cache ((1, range 98 99 1 1) ∷ []) 2 1)
+the_last_row_went_in = (1, refl)

@@ -1,5 +1,5 @@
 -- The laws of every cache.
-use Rattle.std.proofs.Common.{◌≡◌, ℕ, zero, suc, ◌+◌, ◌-◌, ◌^◌, ◌≤◌, Bool, true, false, ◌&&◌, List, [], ◌∷◌, take, Option, Some, None, find, refl, sym, ap, ◌∙◌, subst, arith, nat_eq, nat_le, true≢false, ◌⊎◌, inl, inr}
+use Rattle.std.proofs.Common.{◌≡◌, ℕ, zero, suc, ◌+◌, ◌-◌, ◌^◌, ◌<◌, ◌≤◌, Bool, true, false, ◌&&◌, List, [], ◌∷◌, take, Option, Some, None, find, refl, sym, ap, ◌∙◌, subst, arith, nat_eq, nat_le, true≢false, ◌⊎◌, inl, inr}
 use Rattle.std.specs.List.{IsDistinct}
 use Rattle.std.specs.Map.{keys_of}
 use Rattle.std.proofs.lemmas.Map.Views.{exact_unsigned_eq}
@@ -11,11 +11,13 @@ use Rattle.ds_desc.specs.Descs.{overlap}
 use Rattle.ds_cache.specs.Entries.{Entry, Cache, at_serial, IsSound}
 use Rattle.ds_desc.specs.Descs.{same_key, same_desc}
 use Rattle.ds_cache.specs.Insert.{outdates, newer, standing, later, with_lease, Put, put_new, put_standing, put_newer, clear_of}
-use Rattle.ds_cache.specs.Laws.{StandingLaw, PutLaw, TokenLaw}
+use Rattle.ds_cache.specs.declared.inserted.Inserted.TheVariants.{Older, Renewed, Added, Spent}
+use Rattle.ds_cache.specs.Laws.{StandingLaw, PutLaw, TokenLaw, FreshLaw, KeptLaw}
 use Rattle.ds_cache.proofs.Serials.{is_false, at_head, at_tail, distinct_tail, find_none}
-use Rattle.ds_cache.proofs.Added.{sound_added}
-use Rattle.ds_cache.proofs.Leases.{sound_renewed}
+use Rattle.ds_cache.proofs.Added.{at_clear, at_take, sound_added}
+use Rattle.ds_cache.proofs.Leases.{alike_front, sound_renewed}
 use Rattle.ds_cache.proofs.Outdates.{overlaps_of}
+use Rattle.ds_cache.proofs.Placed.{differs}
 use Rattle.ds_cache.proofs.Stands.{same_bytes}
 
 -- the entry that a search finds stands under its serial, and passes
@@ -54,6 +56,15 @@ standing_law c h i some =
     true≢false (sym on.1 ∙ ap (λ x. same_desc i.desc x.desc) ej ∙ other)))
 
 -- ---- an insertion
+
+older_added : {P : Type 0} (g : ℕ) → Older g ≡ Added → P
+older_added g h = cc
+
+renewed_added : {P : Type 0} → Renewed ≡ Added → P
+renewed_added h = cc
+
+spent_added : {P : Type 0} → Spent ≡ Added → P
+spent_added h = cc
 
 module _ (i : Info) (c : Cache) (h : IsSound c) where
   put_new-sound : key_lt i.desc.span.start i.desc.span.end ≡ true → IsSound (put_new i c).after
@@ -96,8 +107,60 @@ module _ (i : Info) (c : Cache) (h : IsSound c) where
   put_newer-names None = put_standing-names (standing i c.entries) refl
   put_newer-names (Some x) = inl refl
 
+  -- an added entry has a new serial
+  abbrev Later : Put → Type 0
+  Later p = p.inserted ≡ Added → (c.given < p.token) × (p.token ≤ p.after.given)
+
+  put_new-later : Later (put_new i c)
+  put_new-later =
+      (elim (nat_eq c.given (2 ^ 64 - 1)) as (λ u. nat_eq c.given (2 ^ 64 - 1) ≡ u → Later (put_new i c)) [
+        | true ↦ λ u. rw u (λ e. spent_added e)
+        | false ↦ λ u. rw u (λ e. (omega arith, omega arith))
+      ]) refl
+
+  put_standing-later : (o : Option Entry) → Later (put_standing i c o)
+  put_standing-later None = put_new-later
+  put_standing-later (Some x) = λ e. renewed_added e
+
+  put_newer-later : (o : Option Entry) → Later (put_newer i c o)
+  put_newer-later None = put_standing-later (standing i c.entries)
+  put_newer-later (Some x) = λ e. older_added x.1.desc.generation e
+
+  -- the given serials are given still, and keep their descriptors
+  abbrev Keeps : Put → Type 0
+  Keeps p = (c.given ≤ p.after.given) × ((s : ℕ) (j : Info) → s ≤ c.given → at_serial s p.after.entries ≡ Some j → (e : Info) × (at_serial s c.entries ≡ Some e) × (j.desc ≡ e.desc))
+
+  new-keeps : (s : ℕ) (j : Info) → s ≤ c.given → at_serial s (take c.capacity ((c.given + 1, i) ∷ clear_of i c.entries)) ≡ Some j → (e : Info) × (at_serial s c.entries ≡ Some e) × (j.desc ≡ e.desc)
+  new-keeps s j low p =
+      let other : nat_eq s (c.given + 1) ≡ false = differs s (c.given + 1) (λ e. omega (arith, e, low)) in
+      let there : at_serial s ((c.given + 1, i) ∷ clear_of i c.entries) ≡ Some j = at_take c.capacity s j ((c.given + 1, i) ∷ clear_of i c.entries) p in
+      (j, (at_clear i s j c.entries h.distinct (rw other at there)).0, refl)
+
+  put_new-keeps : Keeps (put_new i c)
+  put_new-keeps =
+      (elim (nat_eq c.given (2 ^ 64 - 1)) as (λ u. nat_eq c.given (2 ^ 64 - 1) ≡ u → Keeps (put_new i c)) [
+        | true ↦ λ u. rw u (omega arith, λ s j low p. (j, p, refl))
+        | false ↦ λ u. rw u (omega arith, new-keeps)
+      ]) refl
+
+  put_standing-keeps : (o : Option Entry) → standing i c.entries ≡ o → Keeps (put_standing i c o)
+  put_standing-keeps None e = put_new-keeps
+  put_standing-keeps (Some x) e =
+      let on = found_at (λ y. same_desc i.desc y.1.desc) c.entries x h.distinct e in
+      (omega arith, λ s j low p. (alike_front x.0 x.1 (with_lease (later x.1.lease i.lease) x.1) c.entries h.distinct on.0 refl).there s j p)
+
+  put_newer-keeps : (o : Option Entry) → Keeps (put_newer i c o)
+  put_newer-keeps None = put_standing-keeps (standing i c.entries) refl
+  put_newer-keeps (Some x) = (omega arith, λ s j low p. (j, p, refl))
+
 pub put_law : PutLaw
 put_law c h i span = put_newer-sound i c h (newer i c.entries) span
 
 pub token_law : TokenLaw
 token_law c h i = put_newer-names i c h (newer i c.entries)
+
+pub fresh_law : FreshLaw
+fresh_law c h i = put_newer-later i c h (newer i c.entries)
+
+pub kept_law : KeptLaw
+kept_law c h i = put_newer-keeps i c h (newer i c.entries)

@@ -38,7 +38,7 @@ index_alike es fs m ix a = record {
   each = λ s i p. let x = a.there s i p in ap (λ d. lookup (is_at (key_cmp d.span.start)) m) x.2 ∙ ix.each s x.0 x.1;
 }
 
-alike_front : (s : ℕ) (e w : Info) (es : List Entry) → IsDistinct nat_eq (keys_of es) → at_serial s es ≡ Some e → w.desc ≡ e.desc → Alike es ((s, w) ∷ without s es)
+pub alike_front : (s : ℕ) (e w : Info) (es : List Entry) → IsDistinct nat_eq (keys_of es) → at_serial s es ≡ Some e → w.desc ≡ e.desc → Alike es ((s, w) ∷ without s es)
 alike_front s e w es d h same = record {
   there = λ q j p.
       (elim (nat_eq q s) as (λ t. nat_eq q s ≡ t → (k : Info) × (at_serial q es ≡ Some k) × (j.desc ≡ k.desc)) [

@@ -55,7 +55,7 @@ outside_none s i es m ix here l none = λ i2 here2 t j there other.
     subst (λ x. overlap x.desc.span j.desc.span ≡ false) same (is_false _ (λ o.
     some_none t (sym (ix.each t j there) ∙ none j.desc.span.start (lower s i es m ix here l t j there other o))))
 
-differs : (s t : ℕ) → (s ≡ t → ⊥) → nat_eq s t ≡ false
+pub differs : (s t : ℕ) → (s ≡ t → ⊥) → nat_eq s t ≡ false
 differs s t h = is_false _ (λ e. h (exact_unsigned_eq s t e))
 
 -- the last that starts below the entry isn't the entry

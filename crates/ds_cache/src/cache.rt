@@ -133,6 +133,11 @@ impl RangeCache {
 
     /// Inserts a descriptor with its lease. Want of memory leaves the cache as it was, and comes only
     /// where the descriptor would be [`Added`](Inserted::Added): the other answers take no memory.
+    ///
+    /// It costs a number of searches in the index that grows by one for each entry that overlaps the
+    /// descriptor, each logarithmic in the number of entries, and one more for each that goes. Where
+    /// two or more entries outdate the descriptor, it also goes through the entries in the order of
+    /// their use, up to the first of those: at worst through all.
     pub fn insert(&mut self, alloc: Global, info: Info) -> Result<(Inserted, Token), AllocError>
         ensures ok { IfOk result (λ r. record { inserted = r.0; token = r.1; after = self.new } ≡ put_in info self.old) }
         ensures err { OnErr result (self.new ≡ self.old) }

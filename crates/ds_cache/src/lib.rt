@@ -18,4 +18,4 @@ mod taken;
 
 pub use cache::{RangeCache, Token};
 pub use inserted::Inserted;
-pub use laws::{put_law, standing_law, token_law};
+pub use laws::{fresh_law, kept_law, put_law, standing_law, token_law};

@@ -28,10 +28,10 @@ pub(crate) fn insert_rows(
         };
         cache.insert(alloc, row)?;
     }
-    let Some(row) = rows.pop() else {
+    let Some(first) = rows.pop() else {
         unreachable!()
     };
-    let info = row.copy(alloc)?;
-    let (_, token) = cache.insert(alloc, row)?;
+    let info = first.copy(alloc)?;
+    let (_, token) = cache.insert(alloc, first)?;
     Ok(Sought::Found { info, token })
 }

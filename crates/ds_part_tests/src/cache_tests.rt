@@ -62,9 +62,18 @@ fn a_newer_range_takes_the_place_of_two(rt: HostRuntime) -> Result<(), Fail> {
         put(alloc, &mut cache, (b'b', b'd'), 2, 1)?.0,
         Inserted::Added
     );
+    assert!(rt; start_with(&cache, b"b") && cache.recency().len() == 1);
     assert!(rt; !cache.evict(first) && !cache.evict(second));
-    assert!(rt; start_with(&cache, b"b"));
     Ok(())
+}
+
+/// A cache of two places after two neighbours, and a newer range that took the place of both.
+fn two_then_a_newer(alloc: Global) -> Result<(RangeCache, Token), &'static str> {
+    let mut cache = RangeCache::new(alloc, 2).map_err(|_| "memory")?;
+    put(alloc, &mut cache, (b'a', b'c'), 1, 1)?;
+    put(alloc, &mut cache, (b'c', b'f'), 1, 1)?;
+    let (_, token) = put(alloc, &mut cache, (b'b', b'd'), 2, 1)?;
+    Ok((cache, token))
 }
 
 #[test]
@@ -72,8 +81,7 @@ fn an_equal_generation_is_newer_and_the_same_descriptor_renews(
     rt: HostRuntime,
 ) -> Result<(), Fail> {
     let alloc = rt.alloc();
-    let mut cache = RangeCache::new(alloc, 2)?;
-    let (_, token) = put(alloc, &mut cache, (b'b', b'd'), 2, 1)?;
+    let (mut cache, token) = two_then_a_newer(alloc)?;
     let (older, none) = put(alloc, &mut cache, (b'a', b'c'), 2, 1)?;
     assert_eq!(rt; older, Inserted::Older { by: 2 });
     assert_eq!(rt;

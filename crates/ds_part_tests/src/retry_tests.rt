@@ -85,6 +85,15 @@ fn a_loss_goes_to_the_same_node(rt: HostRuntime) {
     assert_eq!(rt; attempts.at_risk, 1);
 }
 
+#[test]
+fn a_lost_lookup_counts_without_risk(rt: HostRuntime) {
+    let mut attempts = Attempts::new(2);
+    assert!(rt; !attempts.lose(false));
+    assert!(rt; attempts.lose(false));
+    assert_eq!(rt; attempts.lost, 2);
+    assert_eq!(rt; attempts.at_risk, 0);
+}
+
 fn left_of(outcome: &PartOutcome) -> Option<u32> {
     match outcome {
         PartOutcome::Done { left, .. } => left.rest(),

@@ -1,5 +1,5 @@
 //! How many refusals and losses a batch met.
-ghost use Rattle.std.specs.Prelude.{◌≡◌, ◌+◌, ◌<◌, ◌≤◌};
+ghost use Rattle.std.specs.Prelude.{◌≡◌, ◌+◌, ◌<◌, ◌≤◌, false};
 ghost use Rattle.ds_retry.specs.Counted.{first_counts, one_refused, one_lost, is_spent};
 
 use std::marker::Model;
@@ -58,12 +58,14 @@ impl Attempts {
         self.is_spent()
     }
 
-    /// One more loss, of a send that may have acted where it is risky. True exactly where the
-    /// budget is now used up.
-    pub(crate) fn lose(&mut self, risky: bool) -> bool
+    /// Counts a loss after which no node is to be tried again, as that of a lookup, at risk where
+    /// nobody knows whether what was lost acted; a lookup never does. True exactly where the budget
+    /// is now used up. The budget must not be used up yet.
+    pub fn lose(&mut self, risky: bool) -> bool
         requires { (self.old).refused + (self.old).lost < (self.old).budget }
         ensures counts { self.new ≡ one_lost risky self.old }
         ensures spent { result ≡ is_spent self.new }
+        ensures goes_on { result ≡ false → (self.new).refused + (self.new).lost < (self.new).budget }
     {
         self.lost += 1;
         self.at_risk += risky as u32;
