@@ -1,5 +1,5 @@
 -- The positions of each part of a batch rise.
-use Rattle.std.proofs.Common.{◌≡◌, ℕ, ◌+◌, ◌<◌, Bool, true, false, cond, List, [], ◌∷◌, ◌++◌, map, refl, sym, ap, ◌∙◌, subst, inl, inr, arith}
+use Rattle.std.proofs.Common.{◌≡◌, ℕ, ◌+◌, ◌<◌, Bool, true, false, cond, List, [], ◌∷◌, ◌++◌, map, refl, sym, ap, subst, inl, inr, arith}
 use Rattle.ds_base.specs.declared.value.Seq.{Seq}
 use Rattle.ds_kind.specs.Groups.{groups, groups_from}
 use Rattle.ds_kind.specs.Parts.{item_may_join, items_from, part_of, parts_of}
