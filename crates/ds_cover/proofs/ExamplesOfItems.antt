@@ -1,7 +1,7 @@
 -- Items, chains and measures: cases that hold, and cases that must not.
 use Rattle.std.proofs.Common.{◌≡◌, ℕ, ◌+◌, ◌-◌, ◌≤◌, ◌<◌, ◌==◌, Bool, true, false, List, [], ◌∷◌, refl, sym, ap, ◌∙◌, inl, inr, arith}
 use Rattle.ds_base.specs.Number.{key_number}
-use Rattle.ds_base.specs.Order.{Extent, IsKey}
+use Rattle.ds_base.specs.Order.{Extent}
 use Rattle.ds_base.specs.Ordered.{key_eq}
 use Rattle.ds_base.proofs.KeyNumber.{key_number-rises}
 use Rattle.ds_kind.specs.declared.batch.Item.{Item}

@@ -11,6 +11,7 @@ pub mod Limiting
 pub mod Measuring
 pub mod Moving
 pub mod Proper
+pub mod Rising
 pub mod Sharing
 pub mod Tests
 pub mod Tracing

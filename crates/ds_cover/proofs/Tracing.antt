@@ -1,7 +1,7 @@
 -- What is cut of cuts of items is cuts of them again.
 use Rattle.std.proofs.Common.{◌≡◌, ℕ, ◌<◌, true, false, cond, List, [], ◌∷◌, ◌++◌, refl, sym, ap, ◌∙◌, subst, inl, inr, arith}
 use Rattle.ds_base.proofs.OrderedFacts.{le_trans}
-use Rattle.ds_base.specs.Order.{Extent, key_lt, key_le}
+use Rattle.ds_base.specs.Order.{Extent, key_lt}
 use Rattle.ds_base.specs.declared.value.Dir.{Dir}
 use Rattle.ds_base.specs.declared.value.Dir.TheVariants.{Forward, Reverse}
 use Rattle.ds_kind.specs.Reach.{Reach, At, Over, extent_of}
@@ -9,7 +9,7 @@ use Rattle.ds_kind.specs.Request.{cut_to, reach_of, span_of}
 use Rattle.ds_kind.specs.declared.batch.Item.{Item}
 use Rattle.ds_kind.specs.declared.request.Request.{Request}
 use Rattle.ds_kind.specs.declared.request.Request.TheVariants.{Get, Scan, ReverseScan, Put, ConditionalPut, InitPut, Increment, Delete, DeleteRange, EndTxn, QueryIntent, ResolveIntent, ResolveIntentRange, AdminSplit, AdminTransferLease}
-use Rattle.ds_cover.specs.Cuts.{cut_item, cut_by, within, from, up_to, cut_items, rest_items}
+use Rattle.ds_cover.specs.Cuts.{cut_by, within, from, up_to, cut_items, rest_items}
 use Rattle.ds_cover.specs.Items.{PositionsRise, IsOneOf}
 use Rattle.ds_cover.specs.Origins.{LiesIn, IsCut, CutsOf}
 use Rattle.ds_cover.proofs.Covering.{after-in}

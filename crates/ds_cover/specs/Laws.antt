@@ -5,7 +5,11 @@ use Rattle.std.specs.List.Sorted.{IsPermutation}
 use Rattle.ds_base.specs.Order.{Extent, holds}
 use Rattle.ds_base.specs.declared.value.Dir.{Dir}
 use Rattle.ds_desc.specs.Contains.{contains}
+use Rattle.ds_base.specs.declared.value.Seq.{Seq}
+use Rattle.ds_kind.specs.Parts.{parts_of}
 use Rattle.ds_kind.specs.declared.batch.Item.{Item}
+use Rattle.ds_kind.specs.declared.batch.Part.{Part}
+use Rattle.ds_kind.specs.declared.request.Request.{Request}
 use Rattle.ds_cover.specs.Coverage.{positions_at, Covered, AllCovered}
 use Rattle.ds_cover.specs.Cuts.{cut_by, cut_items, rest_items, seek_key}
 use Rattle.ds_cover.specs.Items.{AreProper, IsOneOf, PositionsRise}
@@ -51,6 +55,10 @@ abbrev pub CutsAtPositions : Type 0
 CutsAtPositions =
     (items block : List Item) → PositionsRise items → CutsOf items block → (c : Item) → IsOneOf c block
     → (i : Item) → IsOneOf i items → i.pos ≡ c.pos → IsCut i c
+
+-- the positions of each part of a batch rise
+abbrev pub PartsRise : Type 0
+PartsRise = (split_end : Bool) (requests : List Request) (seqs : List Seq) (p : Part) → IsOneOf p (parts_of split_end requests seqs) → PositionsRise p.items
 
 -- the positions of all parts' blocks at a key, in order, are those of the parts there, in order
 abbrev pub AllInOrder : Type 0

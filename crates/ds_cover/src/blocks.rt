@@ -1,5 +1,5 @@
 //! The laws of coverage by blocks.
-ghost use Rattle.ds_cover.specs.Laws.{AllInOrder, CoversAll, CutsAtPositions, CutsCovered, CutsKnown, CutsOfAll, CutsProper, DropsEmpty, ExactlyNone, KeepsLeft, RestHasLess, SpansProper, StayCuts, StaysCovered, StaySpans, TakenCovers};
+ghost use Rattle.ds_cover.specs.Laws.{AllInOrder, CoversAll, CutsAtPositions, CutsCovered, CutsKnown, CutsOfAll, CutsProper, DropsEmpty, ExactlyNone, KeepsLeft, PartsRise, RestHasLess, SpansProper, StayCuts, StaysCovered, StaySpans, TakenCovers};
 
 /// The order of the blocks doesn't matter.
 pub fn stays_covered()
@@ -40,6 +40,11 @@ pub fn cuts_known()
 /// Where positions rise, each item of a block of cuts is a cut of the item at its position.
 pub fn cuts_at_positions()
     ensures { CutsAtPositions }
+{}
+
+/// The positions of each part of a batch rise.
+pub fn parts_rise()
+    ensures { PartsRise }
 {}
 
 /// Parts one after another: the positions of all blocks at a key, in order, are those of the parts.

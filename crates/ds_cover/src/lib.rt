@@ -11,7 +11,7 @@ mod chains;
 
 pub use blocks::{
     all_in_order, covers_all, cuts_at_positions, cuts_covered, cuts_known, cuts_of_all,
-    cuts_proper, drops_empty, exactly_none, keeps_left, rest_has_less, spans_proper, stay_cuts,
-    stay_spans, stays_covered, taken_covers,
+    cuts_proper, drops_empty, exactly_none, keeps_left, parts_rise, rest_has_less, spans_proper,
+    stay_cuts, stay_spans, stays_covered, taken_covers,
 };
 pub use chains::{chains_once, covered_chains, joins_the_same, once_chains, orders_the_same};
