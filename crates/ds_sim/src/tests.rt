@@ -6,7 +6,7 @@ use ds_base::{Dir, Key, Seq, Stamp, TxnNo, Value};
 use ds_desc::{Looked, Meta, Nodes};
 use ds_kind::kinds::{GetArgs, IncrementArgs};
 use ds_kind::{Body, Head, Item, Items, Piece, Request, TxnStatus};
-use ds_rule::{Answer, ClusterRange, JournalSteps, Wire};
+use ds_rule::{Answer, ClusterRange, JournalSteps, Records, Wire};
 use std::alloc::Global;
 use std::test::Fail;
 
@@ -136,7 +136,8 @@ fn ranges_by_themselves(rt: HostRuntime) -> Result<(), Fail> {
         ranges.settle(alloc, TxnNo(1), None)?;
         let mut steps = JournalSteps::new(alloc);
         let piece = piece(alloc, None, get(alloc))?;
-        let answer = ranges.deliver(alloc, &[], 1, &piece, &mut steps)?;
+        let records = Records::new(alloc);
+        let answer = ranges.deliver(alloc, &records, 1, &piece, &mut steps)?;
         assert!(rt; shows(&answer, 4));
         assert!(rt; ranges.rows(alloc, &least, Dir::Forward)?.len() == 1);
     }
