@@ -1,4 +1,4 @@
--- What is sorted by start and number is in key order, and what starts at one key stands xs it came.
+-- What is sorted by start and number is in key order, and what starts at one key stands as it came.
 use Rattle.std.proofs.Common.{◌≡◌, ℕ, zero, suc, ◌+◌, ◌<◌, ◌≤◌, Bool, true, false, cond, List, [], ◌∷◌, ◌++◌, filter, map, length, take, get_or, refl, sym, ap, ◌∙◌, subst, arith, Ordering, nat_lt, ◌==◌, eq-eqb, ne_eqb, eqb-true}
 use Rattle.std.specs.List.Sorted.{IsPermutation, IsSortedBy}
 use Rattle.std.specs.Ordering.{is_lt, nat_cmp, ordering_then}

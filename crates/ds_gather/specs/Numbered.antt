@@ -17,7 +17,7 @@ numbered n (a ∷ xs) = record { number = n; arrival = a } ∷ numbered (suc n) 
 abbrev pub AreNumbered : List Came → Type 0
 AreNumbered cs = cs ≡ numbered 0 (came_in cs)
 
--- a key, and then a number, xs one key: keys stand in their order, and what has one key by its number
+-- a key, and then a number, as one key: keys stand in their order, and what has one key by its number
 abbrev pub then_number : List ℕ → ℕ → List ℕ
 then_number [] n = 0 ∷ n ∷ []
 then_number (k ∷ ks) n = suc k ∷ then_number ks n
