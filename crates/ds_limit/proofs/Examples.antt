@@ -9,7 +9,8 @@ use Rattle.ds_kind.specs.declared.reply.Body.TheVariants as Said
 use Rattle.ds_kind.specs.declared.reply.Reply.{Reply}
 use Rattle.ds_kind.specs.declared.request.Request.{Request}
 use Rattle.ds_kind.specs.declared.request.Request.TheVariants.{Get, Scan, ReverseScan}
-use Rattle.ds_limit.specs.Filled.{are_inside, filled, resumed}
+use Rattle.ds_kind.specs.Filled.{filled, resumed}
+use Rattle.ds_limit.specs.Rests.{are_inside}
 
 abbrev span : ℕ → ℕ → Extent
 span s e = record { start = s ∷ []; end = e ∷ [] }

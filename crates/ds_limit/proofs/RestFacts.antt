@@ -11,7 +11,8 @@ use Rattle.ds_kind.specs.Parts.{requests_of}
 use Rattle.ds_kind.specs.Request.{span_of}
 use Rattle.ds_kind.specs.declared.batch.Item.{Item}
 use Rattle.ds_kind.specs.declared.reply.Reply.{Reply}
-use Rattle.ds_limit.specs.Filled.{is_inside, are_inside, resumed_at, filled, rests, with_rests}
+use Rattle.ds_kind.specs.Filled.{resumed_at, filled}
+use Rattle.ds_limit.specs.Rests.{is_inside, are_inside, rests, with_rests}
 
 -- a span that lies in another begins below its end, and ends above its start
 

@@ -4,7 +4,8 @@ ghost use Rattle.std.specs.List.{list_all};
 ghost use Rattle.std.specs.Option.{option_copied};
 ghost use Rattle.ds_kind.specs.Asks.{has_proper_span};
 ghost use Rattle.ds_kind.specs.Parts.{requests_of};
-ghost use Rattle.ds_limit.specs.Filled.{are_inside, filled, rests, with_rests};
+ghost use Rattle.ds_kind.specs.Filled.{filled};
+ghost use Rattle.ds_limit.specs.Rests.{are_inside, rests, with_rests};
 
 use crate::rest::rest_of;
 use ds_base::{Key, Span};

@@ -5,7 +5,8 @@ ghost use Rattle.ds_base.specs.Order.{max_key, min_key};
 ghost use Rattle.ds_base.specs.declared.value.Dir.TheVariants.{Forward, Reverse};
 ghost use Rattle.ds_kind.specs.Asks.{has_proper_span};
 ghost use Rattle.ds_kind.specs.Request.{span_of};
-ghost use Rattle.ds_limit.specs.Filled.{is_inside, resumed};
+ghost use Rattle.ds_kind.specs.Filled.{resumed};
+ghost use Rattle.ds_limit.specs.Rests.{is_inside};
 
 use ds_base::{Copies, Dir, Key, Span};
 use ds_kind::{Bounds, Request};

@@ -5,7 +5,7 @@ ghost use Rattle.ds_kind.specs.Left.{taken_by};
 ghost use Rattle.ds_kind.specs.declared.reply.Body.TheVariants.{Got};
 ghost use Rattle.ds_kind.specs.Reach.{Over};
 ghost use Rattle.ds_kind.specs.Request.{reach_of, span_of};
-ghost use Rattle.ds_limit.specs.Filled.{is_inside};
+ghost use Rattle.ds_limit.specs.Rests.{is_inside};
 
 use ds_base::{Dir, Key, Seq, Span, Value};
 use ds_kind::kinds::{ReverseScanArgs, ScanArgs};

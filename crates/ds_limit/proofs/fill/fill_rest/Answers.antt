@@ -1,6 +1,6 @@
 use Rattle.std.proofs.Common.{rules, ◌≡◌, length, ap, ◌∙◌}
 use Rattle.std.specs.Option.{option_copied}
-use Rattle.ds_limit.specs.Filled.{rests, with_rests}
+use Rattle.ds_limit.specs.Rests.{rests, with_rests}
 use Rattle.ds_limit.proofs.RestFacts.{as_many, in_two_steps}
 use Rattle.ds_limit.proofs.fill.fill_rest.Goals as goal
 

@@ -1,5 +1,5 @@
 use Rattle.std.proofs.Common.{rules, ◌≡◌, ◌++◌, ◌∷◌, [], length, sym, ◌∙◌, ap}
-use Rattle.ds_limit.specs.Filled.{with_rests}
+use Rattle.ds_limit.specs.Rests.{with_rests}
 use Rattle.ds_limit.proofs.RestFacts.{put_one, none_put}
 use Rattle.ds_limit.proofs.fill.put_rests.Goals as goal
 

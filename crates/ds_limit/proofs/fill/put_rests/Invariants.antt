@@ -1,5 +1,5 @@
 use Rattle.std.proofs.Common.{◌≡◌, ◌≤◌, length, vec_len}
-use Rattle.ds_limit.specs.Filled.{with_rests}
+use Rattle.ds_limit.specs.Rests.{with_rests}
 use Rattle.ds_limit.proofs.fill.put_rests.Given as goal
 
 -- the replies with what was put into them, and with what is still to be put into them

@@ -1,6 +1,6 @@
 use Rattle.std.proofs.Common.{rules, ◌≡◌, true, Some, subst, sym}
 use Rattle.ds_base.specs.Order.{key_lt}
-use Rattle.ds_limit.specs.Filled.{is_inside}
+use Rattle.ds_limit.specs.Rests.{is_inside}
 use Rattle.ds_limit.proofs.RestFacts.{below_end}
 use Rattle.ds_limit.proofs.rest.forward.Goals as goal
 

@@ -1,23 +1,11 @@
--- The resume spans that a used up limit leaves.
-use Rattle.std.specs.Prelude.{ℕ, Bool, true, false, ◌&&◌, List, [], ◌∷◌, Option, Some, None, if◌then◌else◌}
-use Rattle.ds_base.specs.Order.{Extent, key_lt, key_le, max_key, min_key}
+-- The resume spans that a used up limit leaves in the replies of a batch.
+use Rattle.std.specs.Prelude.{ℕ, List, [], ◌∷◌, Option, Some, None, if◌then◌else◌}
+use Rattle.ds_base.specs.Order.{Extent, key_lt, max_key, min_key}
 use Rattle.ds_base.specs.declared.value.Dir.{Dir}
 use Rattle.ds_base.specs.declared.value.Dir.TheVariants.{Forward, Reverse}
 use Rattle.ds_kind.specs.Request.{span_of}
 use Rattle.ds_kind.specs.declared.batch.Item.{Item}
 use Rattle.ds_kind.specs.declared.reply.Reply.{Reply}
-
--- a resume span lies in the item's span
-abbrev pub is_inside : Extent → Option Extent → Bool
-is_inside s None = true
-is_inside s (Some r) = key_le s.start r.start && key_le r.end s.end
-
--- there is one reply for each item, and its resume span lies in the item's span
-abbrev pub are_inside : List Item → List Reply → Bool
-are_inside [] [] = true
-are_inside [] (r ∷ rs) = false
-are_inside (i ∷ is) [] = false
-are_inside (i ∷ is) (r ∷ rs) = is_inside (span_of i.request) r.resume && are_inside is rs
 
 -- what is left of a span, of which a reply may have left a part, where the rest of all items
 -- begins at the seek key: the far part from where the reply stopped, else what the seek key leaves
@@ -37,15 +25,3 @@ abbrev pub filled : Dir → Option (List ℕ) → List Item → List Reply → L
 filled d seek [] rs = rs
 filled d seek (i ∷ is) [] = []
 filled d seek (i ∷ is) (r ∷ rs) = record { body = r.body; resume = resumed_at d seek i r } ∷ filled d seek is rs
-
--- the same in two steps: what is left of each item's span, and the replies with it
-
-abbrev pub rests : Dir → Option (List ℕ) → List Item → List Reply → List (Option Extent)
-rests d seek [] rs = []
-rests d seek (i ∷ is) [] = []
-rests d seek (i ∷ is) (r ∷ rs) = resumed_at d seek i r ∷ rests d seek is rs
-
-abbrev pub with_rests : List Reply → List (Option Extent) → List Reply
-with_rests [] xs = []
-with_rests (r ∷ rs) [] = r ∷ rs
-with_rests (r ∷ rs) (x ∷ xs) = record { body = r.body; resume = x } ∷ with_rests rs xs
