@@ -13,10 +13,10 @@ use Rattle.ds_rule.specs.declared.journal.JournalStep.{JournalStep}
 use Rattle.ds_rule.specs.declared.journal.JournalStep.TheVariants.{Look, Send}
 use Rattle.ds_rule.specs.Asking.{Asking, Made, Gives, Fails}
 use Rattle.ds_rule.specs.Clauses.{Stands}
-use Rattle.ds_rule.specs.Deliver.{Stop, world_made, world_at, deliver_world_to, deliver_world, served, stops, has_id}
+use Rattle.ds_rule.specs.Deliver.{Stop, world_made, world_at, deliver_world_to, deliver_world, served, stops}
 use Rattle.ds_rule.specs.Journal.{Did as Stepped, Does, Runs, Accepted}
 use Rattle.ds_rule.specs.Path.{Path}
-use Rattle.ds_rule.specs.World.{World, Range}
+use Rattle.ds_rule.specs.World.{World, Range, has_id}
 use Rattle.ds_send.specs.Sent.{Ruled, Sent, SentBy, IsOpenFor, is_whole}
 use Rattle.ds_replay.specs.Asked.{AskedBy, begun_block}
 use Rattle.ds_replay.proofs.Readiness.{is-asked}

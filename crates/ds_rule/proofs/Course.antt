@@ -28,14 +28,14 @@ use Rattle.ds_rule.specs.declared.event.Event.{Event}
 use Rattle.ds_rule.specs.declared.event.Event.TheVariants as Event
 use Rattle.ds_rule.specs.Asking.{Asking, Gives, at_of, txn_of}
 use Rattle.ds_rule.specs.Clauses.{IsAbove}
-use Rattle.ds_rule.specs.Deliver.{has_id, holds_item, deliver_world, status_stops}
+use Rattle.ds_rule.specs.Deliver.{holds_item, deliver_world, status_stops}
 use Rattle.ds_rule.specs.Journal.{Happening, Moved, Did, Does, Runs, Accepted, accepted, accepted_by, pairs}
 use Rattle.ds_rule.specs.Moves.{moved}
 use Rattle.ds_rule.specs.Path.{IsHigh, IsOf, IsStepOf}
 use Rattle.ds_rule.specs.Pieces.{Each, PieceOf}
 use Rattle.ds_rule.specs.Plain.{after_event, abort_txn, aborted_by, is_pending}
 use Rattle.ds_rule.specs.StandsFor.{StandsFor, IsIntentOf, IsAt, IsWho, Knows, open_stamp, IsBefore, after_made}
-use Rattle.ds_rule.specs.World.{World, Range, start_of, end_of, contents, cell_of}
+use Rattle.ds_rule.specs.World.{World, Range, start_of, end_of, contents, cell_of, has_id}
 use Rattle.ds_rule.proofs.Puts.{put-at}
 use Rattle.ds_rule.proofs.Reading.{read_bits, same-read, same-places, shown_by, seen-same, seen-settled}
 use Rattle.ds_rule.proofs.Routes.{range-between, contents-ascend}

@@ -17,9 +17,8 @@ use Rattle.ds_cell.specs.Change.{wrote, settled}
 use Rattle.ds_cell.specs.Requests.{ask_request}
 use Rattle.ds_cell.specs.Store.{WriteAt, put_cell, write_all, under_number, settle_all}
 use Rattle.ds_rule.specs.Asking.{Made, Gives, Fails, at_of, made_by, and_before, and_then, ask_item, ask_all, committed_by, finished}
-use Rattle.ds_rule.specs.World.{World, Range, end_of, Fits, Tiles}
-use Rattle.ds_rule.specs.Deliver.{holds_item, replaced, has_id, mismatch_rows, status_stops, Stop, Turned, ends, stops, served, world_made, world_at, deliver_world_to, deliver_world}
-use Rattle.ds_rule.specs.Moves.{holds_key}
+use Rattle.ds_rule.specs.World.{World, Range, end_of, Fits, Tiles, has_id, holds_key, replaced}
+use Rattle.ds_rule.specs.Deliver.{holds_item, mismatch_rows, status_stops, Stop, Turned, ends, stops, served, world_made, world_at, deliver_world_to, deliver_world}
 use Rattle.ds_rule.proofs.Tiling.{fits-put}
 use Rattle.ds_rule.proofs.Writes.{Puts, AllIn, puts_in_span, held_key}
 

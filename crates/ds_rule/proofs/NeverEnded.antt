@@ -16,14 +16,14 @@ use Rattle.ds_rule.specs.declared.record.TxnRecord.{TxnRecord}
 use Rattle.ds_rule.specs.Asking.{Asking, Made, Gives, Fails, txn_number, txn_of}
 use Rattle.ds_rule.specs.Cause.{LastFails}
 use Rattle.ds_rule.specs.Clauses.{Stands}
-use Rattle.ds_rule.specs.Deliver.{Stop, deliver_world, deliver_world_to, has_id, served, status_stops, stops, world_at, world_made}
+use Rattle.ds_rule.specs.Deliver.{Stop, deliver_world, deliver_world_to, served, status_stops, stops, world_at, world_made}
 use Rattle.ds_rule.specs.Journal.{Happening, Moved, Did, Runs, Accepted}
 use Rattle.ds_rule.specs.Law.{IsQuiet}
 use Rattle.ds_rule.specs.Path.{Path, IsOf}
 use Rattle.ds_rule.specs.Pieces.{Each, PieceOf}
 use Rattle.ds_rule.specs.Plain.{is_pending}
 use Rattle.ds_rule.specs.StandsFor.{HasRecordOf, IsWho, Knows, Ready, record_for, record_number}
-use Rattle.ds_rule.specs.World.{World, Range}
+use Rattle.ds_rule.specs.World.{World, Range, has_id}
 use Rattle.ds_rule.proofs.Failing.{ByItem, ByRecord, Why, none-named, runs-cut, status_of, why}
 use Rattle.ds_rule.proofs.Own.{IsOfRecord, never-of-record}
 use Rattle.ds_rule.proofs.Recorded.{Pends, find-last, known-last}

@@ -12,9 +12,7 @@ use Rattle.ds_cell.specs.Content.{Content}
 use Rattle.ds_cell.specs.Ask.{Cells, key_of, content_of, content_at}
 use Rattle.ds_cell.specs.Store.{put_cell}
 use Rattle.ds_cell.specs.StoreProofs.{content-put}
-use Rattle.ds_rule.specs.World.{Range, start_of, end_of, contents, Tiles}
-use Rattle.ds_rule.specs.Deliver.{replaced}
-use Rattle.ds_rule.specs.Moves.{holds_key}
+use Rattle.ds_rule.specs.World.{Range, start_of, end_of, contents, Tiles, holds_key, replaced}
 use Rattle.ds_rule.proofs.Routes.{inside-below, contents-from, over-of-from, le_itself}
 
 insert-over : (k : List ℕ) (c : Content) (ys : Cells) → AllOver key_of k ys → insert_entry key_cmp ys k c ≡ (k, c) ∷ ys

@@ -12,12 +12,12 @@ use Rattle.ds_rule.specs.declared.answer.Answer.TheVariants.{Done, Failed, Refus
 use Rattle.ds_rule.specs.declared.journal.JournalStep.TheVariants.{Look, Send}
 use Rattle.ds_rule.specs.Asking.{Made, Gives, Fails}
 use Rattle.ds_rule.specs.Cause.{IsIdle}
-use Rattle.ds_rule.specs.Deliver.{answer_made, world_made, answer_at, world_at, Stop, stops, served, has_id, deliver_answer, deliver_answer_to, deliver_world, deliver_world_to}
+use Rattle.ds_rule.specs.Deliver.{answer_made, world_made, answer_at, world_at, Stop, stops, served, deliver_answer, deliver_answer_to, deliver_world, deliver_world_to}
 use Rattle.ds_rule.specs.Journal.{Happening, Moved, Did, Runs}
 use Rattle.ds_rule.specs.Law.{IsQuiet}
 use Rattle.ds_rule.specs.Pieces.{Each}
 use Rattle.ds_rule.specs.StandsFor.{StandsFor, after_made}
-use Rattle.ds_rule.specs.World.{World, Range}
+use Rattle.ds_rule.specs.World.{World, Range, has_id}
 use Rattle.ds_rule.proofs.Truth.{looks-stay}
 
 -- a store that nothing happens to beside the steps stays as it is

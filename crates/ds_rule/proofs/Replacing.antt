@@ -6,8 +6,7 @@ use Rattle.ds_base.specs.Ordered.{key_eq, Ascends, at_key, between}
 use Rattle.ds_base.proofs.SmallFacts.{and_first, and_second}
 use Rattle.ds_base.proofs.OrderedFacts.{eq_same, le_trans, at_key-between}
 use Rattle.ds_cell.specs.Ask.{Cells, key_of, content_of, content_at}
-use Rattle.ds_rule.specs.Deliver.{replaced}
-use Rattle.ds_rule.specs.World.{Range, start_of, end_of, contents, Inside, Fits, Tiles}
+use Rattle.ds_rule.specs.World.{Range, start_of, end_of, contents, Inside, Fits, Tiles, replaced}
 use Rattle.ds_rule.proofs.Puts.{content-left, content-right}
 use Rattle.ds_rule.proofs.Routes.{inside-below, contents-from, over-of-from, le_itself, found-from, range-between}
 

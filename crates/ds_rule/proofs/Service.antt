@@ -9,8 +9,8 @@ use Rattle.ds_cell.specs.Ask.{Cells}
 use Rattle.ds_cell.specs.Store.{WriteAt}
 use Rattle.ds_rule.specs.declared.answer.Answer.TheVariants.{Done, Failed, Refused, Lost}
 use Rattle.ds_rule.specs.Asking.{Made, Gives, Fails, txn_of}
-use Rattle.ds_rule.specs.Deliver.{answer_made, answer_at, stops, Stop, Turned, Ended, stop_answer, served, deliver_answer, deliver_answer_to, has_id, holds_item, mismatch_rows, ends, status_stops}
-use Rattle.ds_rule.specs.World.{World, Range}
+use Rattle.ds_rule.specs.Deliver.{answer_made, answer_at, stops, Stop, Turned, Ended, stop_answer, served, deliver_answer, deliver_answer_to, holds_item, mismatch_rows, ends, status_stops}
+use Rattle.ds_rule.specs.World.{World, Range, has_id}
 
 pub record Service (w : World) (node : ℕ) (p : Piece) (rs : List Reply) : Type 0 where
   pub range : Range

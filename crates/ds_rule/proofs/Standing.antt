@@ -15,11 +15,10 @@ use Rattle.ds_rule.specs.declared.event.Event.{Event}
 use Rattle.ds_rule.specs.declared.event.Event.TheVariants as Event
 use Rattle.ds_rule.specs.declared.record.TxnRecord.{TxnRecord}
 use Rattle.ds_rule.specs.Clauses.{IsAbove}
-use Rattle.ds_rule.specs.Deliver.{replaced}
-use Rattle.ds_rule.specs.Moves.{holds_key, moved, with_last, with_last_after, aborted}
+use Rattle.ds_rule.specs.Moves.{moved, with_last, with_last_after, aborted}
 use Rattle.ds_rule.specs.Plain.{after_event, abort_txn, aborted_by}
 use Rattle.ds_rule.specs.StandsFor.{IsAt, AllUpTo, open_stamp, IsIntentOf, HasRecord, HasRecordOf, record_for, record_number, StandsFor}
-use Rattle.ds_rule.specs.World.{World, Range, contents, cell_of, Tiles}
+use Rattle.ds_rule.specs.World.{World, Range, contents, cell_of, Tiles, holds_key, replaced}
 use Rattle.ds_rule.proofs.Puts.{contents-put, put-at}
 use Rattle.ds_rule.proofs.Routes.{contents-ascend}
 use Rattle.ds_cell.specs.StoreProofs.{ascends-insert}

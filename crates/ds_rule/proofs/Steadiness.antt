@@ -25,14 +25,14 @@ use Rattle.ds_rule.specs.Asking.{Made, Gives, Fails}
 use Rattle.ds_rule.specs.Begin.{ranges_of, first_world, is_leased}
 use Rattle.ds_rule.specs.Cause.{UsedUp, refused_in, lost_in}
 use Rattle.ds_rule.specs.Close.{closed, settle_by, settle_range, with_begin}
-use Rattle.ds_rule.specs.Deliver.{Stop, Turned, answer_at, answer_made, deliver_answer, deliver_answer_to, deliver_world, deliver_world_to, ends, has_id, holds_item, mismatch_rows, replaced, served, stops, world_at, world_made}
+use Rattle.ds_rule.specs.Deliver.{Stop, Turned, answer_at, answer_made, deliver_answer, deliver_answer_to, deliver_world, deliver_world_to, ends, holds_item, mismatch_rows, served, stops, world_at, world_made}
 use Rattle.ds_rule.specs.Journal.{Happening, Moved, Did, Runs}
 use Rattle.ds_rule.specs.Law.{IsQuiet}
-use Rattle.ds_rule.specs.Moves.{moved, holds_key}
+use Rattle.ds_rule.specs.Moves.{moved}
 use Rattle.ds_rule.specs.Path.{AreRouted, GoesTo, IsRouted, route_by}
 use Rattle.ds_rule.specs.Pieces.{Each, IsOneOf}
 use Rattle.ds_rule.specs.Steady.{Steady, has_lease, ids_differ, infos_in}
-use Rattle.ds_rule.specs.World.{World, Range, from_first, in_order, look_rows, look_world, rows_at, without_first}
+use Rattle.ds_rule.specs.World.{World, Range, from_first, in_order, look_rows, look_world, rows_at, without_first, has_id, holds_key, replaced}
 use Rattle.ds_rule.proofs.Failing.{status_of}
 
 -- at first

@@ -13,12 +13,10 @@ use Rattle.ds_base.proofs.OrderedFacts.{over-below}
 use Rattle.ds_rule.specs.declared.cluster.ClusterRange.{ClusterRange}
 use Rattle.ds_cell.specs.Content.{Content}
 use Rattle.ds_cell.specs.Ask.{Cell, key_of}
-use Rattle.ds_rule.specs.World.{Range, end_of, Inside, Fits, Tiles}
+use Rattle.ds_rule.specs.World.{Range, end_of, Inside, Fits, Tiles, holds_key, replaced}
 use Rattle.ds_rule.specs.Begin.{next_start, ranges_of, rises}
-use Rattle.ds_rule.specs.Deliver.{replaced}
 use Rattle.ds_cell.specs.Store.{put_cell}
 use Rattle.ds_cell.specs.StoreProofs.{ascends-insert}
-use Rattle.ds_rule.specs.Moves.{holds_key}
 
 -- a cluster's ranges tile from their first start on
 pub rises-tiles : (id : ℕ) (rs : List ClusterRange) → rises rs ≡ true → Tiles (next_start rs) (ranges_of id rs)

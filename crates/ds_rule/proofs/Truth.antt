@@ -26,13 +26,13 @@ use Rattle.ds_rule.specs.declared.journal.JournalStep.{JournalStep}
 use Rattle.ds_rule.specs.declared.journal.JournalStep.TheVariants.{Look, Send}
 use Rattle.ds_rule.specs.declared.event.Event.{Event}
 use Rattle.ds_rule.specs.Asking.{Asking, Made, Gives, Fails, ask_all, ask_item, made_by, and_then, and_before, at_of, txn_of, finished, committed_by}
-use Rattle.ds_rule.specs.Deliver.{replaced, has_id, holds_item, Stop, stops, served, deliver_answer, deliver_world, deliver_world_to, world_at, world_made, with_cells}
+use Rattle.ds_rule.specs.Deliver.{holds_item, Stop, stops, served, deliver_answer, deliver_world, deliver_world_to, world_at, world_made, with_cells}
 use Rattle.ds_rule.specs.Journal.{Happening, Moved, Did, Does, Runs, Accepted, accepted, accepted_by, pairs}
 use Rattle.ds_rule.specs.Path.{IsHigh, IsOf, IsStepOf}
 use Rattle.ds_rule.specs.Pieces.{Each, IsOneOf, IsCut, PieceOf}
 use Rattle.ds_rule.specs.Plain.{after_event}
 use Rattle.ds_rule.specs.StandsFor.{StandsFor, AllUpTo, record_number, IsAt, IsIntentOf, HasRecordOf, open_stamp, IsBefore}
-use Rattle.ds_rule.specs.World.{World, Range, start_of, end_of, contents, cell_of, Tiles}
+use Rattle.ds_rule.specs.World.{World, Range, start_of, end_of, contents, cell_of, Tiles, has_id, replaced}
 use Rattle.ds_rule.proofs.Reading.{reads-give, read_bits, same-read, same-places, shown_by}
 use Rattle.ds_rule.proofs.Routes.{range-between}
 use Rattle.ds_rule.proofs.Service.{service, held}

@@ -25,14 +25,14 @@ use Rattle.ds_rule.specs.declared.journal.JournalStep.TheVariants.{Send}
 use Rattle.ds_rule.specs.Asking.{Asking, Gives, Fails, ask_all, asking_by, finished, txn_of, txn_number}
 use Rattle.ds_rule.specs.Cause.{IsIdle, IsWholeOf, LastFails, LastLost, LastServes, TooWide}
 use Rattle.ds_rule.specs.Clauses.{Stands}
-use Rattle.ds_rule.specs.Deliver.{has_id, holds_item, deliver_answer}
+use Rattle.ds_rule.specs.Deliver.{holds_item, deliver_answer}
 use Rattle.ds_rule.specs.Journal.{Happening, Did as Stepped, Runs, Accepted, pairs}
 use Rattle.ds_rule.specs.Law.{LeadsTo, IsProperRead, IsSingle, IsQuiet, MayAct, WholeLaw}
 use Rattle.ds_rule.specs.Path.{Path, IsHigh, IsOf}
 use Rattle.ds_rule.specs.Pieces.{Each}
 use Rattle.ds_rule.specs.Plain.{Answered, asker_in, counted_txn, if_of_txn, counted_store, failed_txn, failed_store, finds_pending}
 use Rattle.ds_rule.specs.StandsFor.{StandsFor, Ready}
-use Rattle.ds_rule.specs.World.{World, start_of, end_of}
+use Rattle.ds_rule.specs.World.{World, start_of, end_of, has_id}
 use Rattle.ds_rule.proofs.Alike.{Alike, all-alike}
 use Rattle.ds_rule.proofs.Course.{OnWay, IsPlain, course}
 use Rattle.ds_rule.proofs.Failing.{status_of, Why, ByRecord, ByItem, why, reads-fail, nothing-stops, runs-cut}

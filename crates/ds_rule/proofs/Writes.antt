@@ -18,9 +18,8 @@ use Rattle.ds_cell.specs.Content.{Content}
 use Rattle.ds_cell.specs.Ask.{Cells, key_of, content_at, Asked, Failed, Gave, one_more, ask_each, ask_at}
 use Rattle.ds_cell.specs.LawProofs.{own_span}
 use Rattle.ds_cell.specs.Requests.{deed_of, ask_request}
-use Rattle.ds_rule.specs.World.{Range, start_of, end_of}
+use Rattle.ds_rule.specs.World.{Range, start_of, end_of, holds_key}
 use Rattle.ds_rule.specs.Deliver.{holds_item}
-use Rattle.ds_rule.specs.Moves.{holds_key}
 
 -- a request's writes, by key
 abbrev pub Puts : Type 0

@@ -14,10 +14,10 @@ use Rattle.ds_cell.specs.Ask.{Cells, key_of, content_at}
 use Rattle.ds_cell.specs.Change.{made}
 use Rattle.ds_cell.specs.Store.{Store, StoreTxn, WriteAt, settle_all}
 use Rattle.ds_rule.specs.Asking.{Asking, Made, Gives, Fails, ask_all, committed_by, finished, txn_number}
-use Rattle.ds_rule.specs.Deliver.{replaced, has_id, holds_item, with_cells, world_made, world_at, deliver_world, deliver_world_to}
+use Rattle.ds_rule.specs.Deliver.{holds_item, with_cells, world_made, world_at, deliver_world, deliver_world_to}
 use Rattle.ds_rule.specs.Pieces.{Each}
 use Rattle.ds_rule.specs.StandsFor.{StandsFor, IsAt, IsIntentOf, open_stamp}
-use Rattle.ds_rule.specs.World.{World, Range, start_of, end_of, contents, cell_of, Inside}
+use Rattle.ds_rule.specs.World.{World, Range, start_of, end_of, contents, cell_of, Inside, has_id, replaced}
 use Rattle.ds_rule.proofs.Alike.{Both, Alike, all-alike, settle-both}
 use Rattle.ds_rule.proofs.Kept.{Within, all-within}
 use Rattle.ds_rule.proofs.Replacing.{given-in, given-out, given-tiles, found-fits, range-at}

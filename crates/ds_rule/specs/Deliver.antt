@@ -17,19 +17,11 @@ use Rattle.ds_rule.specs.declared.record.TxnRecord.{TxnRecord}
 use Rattle.ds_rule.specs.declared.record.RecordStatus.{RecordStatus}
 use Rattle.ds_rule.specs.declared.record.RecordStatus.TheVariants as Status
 use Rattle.ds_rule.specs.Asking.{Made, Gives, Fails, ask_all, finished, txn_of}
-use Rattle.ds_rule.specs.World.{World, Range, start_of, end_of, in_order}
+use Rattle.ds_rule.specs.World.{World, Range, start_of, end_of, has_id, in_order, replaced}
 
 -- the range holds the item's span
 abbrev pub holds_item : Range → Item → Bool
 holds_item r i = key_le (start_of r) (span_of i.request).start && key_le (span_of i.request).end (end_of r)
-
--- the first that passes, changed
-abbrev pub replaced : (Range → Bool) → (Range → Range) → List Range → List Range
-replaced p f [] = []
-replaced p f (r ∷ rs) = if p r then f r ∷ rs else r ∷ replaced p f rs
-
-abbrev pub has_id : ℕ → Range → Bool
-has_id id r = r.info.desc.id == id
 
 abbrev pub with_cells : ℕ → List Cell → World → World
 with_cells id cells w = record w { ranges = replaced (has_id id) (λ r. record r { cells = cells }) w.ranges }

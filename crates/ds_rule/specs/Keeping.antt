@@ -4,10 +4,9 @@ use Rattle.std.specs.List.{list_all}
 use Rattle.ds_desc.specs.Descs.{GenerationsRise, containing}
 use Rattle.ds_desc.specs.declared.desc.RangeDesc.{RangeDesc}
 use Rattle.ds_cell.specs.Seen.{last_of}
-use Rattle.ds_rule.specs.Moves.{holds_key}
 use Rattle.ds_rule.specs.Pieces.{Each}
 use Rattle.ds_rule.specs.Steady.{has_lease, ids_differ, infos_in}
-use Rattle.ds_rule.specs.World.{World, Range, Tiles}
+use Rattle.ds_rule.specs.World.{World, Range, Tiles, holds_key}
 
 -- of all descriptors that contain a key of the range, the last is the range's own
 abbrev pub IsNewest : List RangeDesc → Range → Type 0

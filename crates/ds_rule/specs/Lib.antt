@@ -9,11 +9,13 @@ pub mod Gathered
 pub mod Journal
 pub mod Keeping
 pub mod Law
+pub mod Limited
 pub mod Moves
 pub mod Path
 pub mod Pieces
 pub mod Plain
 pub mod Records
+pub mod Serve
 pub mod Shifts
 pub mod StandsFor
 pub mod Steady

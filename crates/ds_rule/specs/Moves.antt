@@ -1,6 +1,5 @@
 -- What an event does to the world.
 use Rattle.std.specs.Prelude.{◌≡◌, ℕ, ◌+◌, Bool, true, false, List, [], ◌∷◌, if◌then◌else◌}
-use Rattle.ds_base.specs.Order.{holds}
 use Rattle.ds_cell.specs.Change.{after_foreign}
 use Rattle.ds_cell.specs.Store.{put_cell}
 use Rattle.ds_rule.specs.declared.event.Event.{Event}
@@ -8,11 +7,7 @@ use Rattle.ds_rule.specs.declared.event.Event.TheVariants.{Write, Abort}
 use Rattle.ds_rule.specs.declared.record.TxnRecord.{TxnRecord}
 use Rattle.ds_rule.specs.declared.record.RecordStatus.{RecordStatus}
 use Rattle.ds_rule.specs.declared.record.RecordStatus.TheVariants as Status
-use Rattle.ds_rule.specs.World.{World, Range, start_of, end_of}
-use Rattle.ds_rule.specs.Deliver.{replaced}
-
-abbrev pub holds_key : List ℕ → Range → Bool
-holds_key k r = holds (start_of r) (end_of r) k
+use Rattle.ds_rule.specs.World.{World, holds_key, replaced}
 
 abbrev pub counted : World → World
 counted w = record w { count = w.count + 1 }

@@ -11,9 +11,7 @@ use Rattle.ds_desc.specs.declared.desc.RangeDesc.{RangeDesc}
 use Rattle.ds_cell.specs.Change.{after_foreign}
 use Rattle.ds_cell.specs.Store.{put_cell}
 use Rattle.ds_cell.specs.declared.entry.Version.{Version}
-use Rattle.ds_rule.specs.Deliver.{replaced}
-use Rattle.ds_rule.specs.Moves.{holds_key}
-use Rattle.ds_rule.specs.World.{World, Range, start_of, end_of, first_or}
+use Rattle.ds_rule.specs.World.{World, Range, start_of, end_of, first_or, holds_key, replaced}
 
 -- one more is still a number of 32 bits
 abbrev pub has_next : ℕ → Bool

@@ -40,6 +40,17 @@ start_of r = r.info.desc.span.start
 abbrev pub end_of : Range → List ℕ
 end_of r = r.info.desc.span.end
 
+abbrev pub has_id : ℕ → Range → Bool
+has_id id r = r.info.desc.id == id
+
+abbrev pub holds_key : List ℕ → Range → Bool
+holds_key k r = holds (start_of r) (end_of r) k
+
+-- the first that passes, changed
+abbrev pub replaced : (Range → Bool) → (Range → Range) → List Range → List Range
+replaced p f [] = []
+replaced p f (r ∷ rs) = if p r then f r ∷ rs else r ∷ replaced p f rs
+
 -- all that the ranges hold, whichever range holds it
 abbrev pub contents : List Range → List Cell
 contents [] = []

@@ -18,9 +18,9 @@ use Rattle.ds_rule.specs.declared.answer.Answer.TheVariants.{Refused}
 use Rattle.ds_rule.specs.declared.event.Event.TheVariants.{Write}
 use Rattle.ds_rule.specs.declared.record.TxnRecord.{TxnRecord}
 use Rattle.ds_rule.specs.Asking.{Made, Gives, Fails}
-use Rattle.ds_rule.specs.World.{World, Range, Tiles}
-use Rattle.ds_rule.specs.Deliver.{Stop, stop_answer, has_id, stops, served, replaced, answer_at, answer_made, world_at, world_made, deliver_answer, deliver_world, deliver_answer_to, deliver_world_to}
-use Rattle.ds_rule.specs.Moves.{holds_key, moved}
+use Rattle.ds_rule.specs.World.{World, Range, Tiles, has_id, holds_key, replaced}
+use Rattle.ds_rule.specs.Deliver.{Stop, stop_answer, stops, served, answer_at, answer_made, world_at, world_made, deliver_answer, deliver_world, deliver_answer_to, deliver_world_to}
+use Rattle.ds_rule.specs.Moves.{moved}
 use Rattle.ds_rule.proofs.Delivered.{holding, same_descs, delivered_tiles}
 use Rattle.ds_range.specs.Serves.{after_made}
 use Rattle.ds_sim.specs.State.{world_of}

@@ -6,13 +6,11 @@ use Rattle.std.proofs.lemmas.Option.{get_or_from_slice_get}
 use Rattle.std.proofs.lemmas.List.{set-get_or}
 use Rattle.ds_cell.specs.Content.{Content}
 use Rattle.ds_cell.specs.Store.{put_cell}
-use Rattle.ds_rule.specs.Moves.{holds_key}
 use Rattle.ds_rule.proofs.Tiling.{tiles-put}
 use Rattle.std.specs.List.{find, position_or_len}
 use Rattle.std.proofs.Math.ListN.{set}
 use Rattle.ds_base.proofs.SmallFacts.{ge_of, lt_of, none_some, some_none, some_same}
-use Rattle.ds_rule.specs.World.{Range, Tiles}
-use Rattle.ds_rule.specs.Deliver.{replaced}
+use Rattle.ds_rule.specs.World.{Range, Tiles, holds_key, replaced}
 
 placed_at : (p : Range → Bool) (f : Range → Range) (xs : List Range) (i : ℕ) (y : Range) → i ≡ position_or_len p xs → i < length xs → y ≡ f (get_or xs i y) → set xs i y ≡ replaced p f xs
 placed_at p f [] i y at low is = absurd (omega arith)

@@ -9,8 +9,8 @@ use Rattle.ds_rule.specs.declared.answer.Answer.TheVariants.{Done, Failed, Refus
 use Rattle.ds_rule.specs.declared.journal.JournalStep.{JournalStep}
 use Rattle.ds_rule.specs.declared.journal.JournalStep.TheVariants.{Send}
 use Rattle.ds_rule.specs.Asking.{Made, Gives, Fails}
-use Rattle.ds_rule.specs.World.{World, Range}
-use Rattle.ds_rule.specs.Deliver.{Stop, Turned, Ended, has_id, stops, served, deliver_answer, deliver_world, deliver_answer_to, answer_at, answer_made}
+use Rattle.ds_rule.specs.World.{World, Range, has_id}
+use Rattle.ds_rule.specs.Deliver.{Stop, Turned, Ended, stops, served, deliver_answer, deliver_world, deliver_answer_to, answer_at, answer_made}
 use Rattle.ds_rule.specs.Journal.{Did, Does}
 use Rattle.ds_rule.specs.Clauses.{Stands, Steps, Stays, IsRefused, IsLost}
 use Rattle.ds_sim.specs.State.{stands_for, refused_after}

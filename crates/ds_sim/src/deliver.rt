@@ -4,7 +4,8 @@ ghost use Rattle.std.specs.Option.{option_map};
 ghost use Rattle.std.specs.List.{slice_get};
 ghost use Rattle.ds_rule.specs.declared.journal.JournalStep.TheVariants.{Send};
 ghost use Rattle.ds_rule.specs.Asking.{txn_of, ask_all};
-ghost use Rattle.ds_rule.specs.Deliver.{answer_made, stops, stop_answer, deliver_answer, deliver_world, has_id, status_stops};
+ghost use Rattle.ds_rule.specs.World.{has_id};
+ghost use Rattle.ds_rule.specs.Deliver.{answer_made, stops, stop_answer, deliver_answer, deliver_world, status_stops};
 ghost use Rattle.ds_range.specs.Serves.{after_made};
 ghost use Rattle.ds_sim.specs.State.{world_of};
 

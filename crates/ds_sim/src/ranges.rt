@@ -6,8 +6,8 @@ ghost use Rattle.ds_cell.specs.Store.{put_cell};
 ghost use Rattle.ds_rule.specs.declared.journal.JournalStep.TheVariants.{Send};
 ghost use Rattle.ds_rule.specs.Begin.{ranges_of, tiles};
 ghost use Rattle.ds_rule.specs.Close.{settle_range};
-ghost use Rattle.ds_rule.specs.Deliver.{deliver_answer, deliver_world, replaced};
-ghost use Rattle.ds_rule.specs.Moves.{holds_key};
+ghost use Rattle.ds_rule.specs.Deliver.{deliver_answer, deliver_world};
+ghost use Rattle.ds_rule.specs.World.{holds_key, replaced};
 ghost use Rattle.ds_sim.specs.State.{world_of, rows_of};
 
 use crate::begin::first_ranges;

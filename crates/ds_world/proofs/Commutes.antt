@@ -13,9 +13,8 @@ use Rattle.ds_cell.specs.Change.{after_foreign}
 use Rattle.ds_cell.specs.Store.{put_cell}
 use Rattle.ds_cell.specs.declared.entry.Version.{Version}
 use Rattle.ds_rule.specs.Keeping.{Keeps}
-use Rattle.ds_rule.specs.Moves.{holds_key}
 use Rattle.ds_rule.specs.Shifts.{Change, arming, behind, can_join, can_lease, can_move, can_split, change_at, foreign_at, joined, lease_in, lease_to, left_part, merge_at, merge_in, move_in, move_to, right_part, shifted, split_at, split_in, stale_by, unchanged, with_lease, with_nodes}
-use Rattle.ds_rule.specs.World.{World, Range, contents, end_of, Inside, Tiles}
+use Rattle.ds_rule.specs.World.{World, Range, contents, end_of, Inside, Tiles, holds_key}
 use Rattle.ds_rule.proofs.Routes.{contents-from, le_itself}
 use Rattle.ds_rule.proofs.Tiling.{tiles-put}
 use Rattle.ds_world.proofs.Foreign.{foreign-keeps, holding-infos, same-written, written}

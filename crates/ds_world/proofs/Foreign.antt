@@ -8,13 +8,11 @@ use Rattle.ds_cell.specs.Ask.{Cell}
 use Rattle.ds_cell.specs.Change.{after_foreign}
 use Rattle.ds_cell.specs.Store.{put_cell}
 use Rattle.ds_cell.specs.declared.entry.Version.{Version}
-use Rattle.ds_rule.specs.Deliver.{replaced}
 use Rattle.ds_rule.specs.Keeping.{IsNewest, Keeps}
-use Rattle.ds_rule.specs.Moves.{holds_key}
 use Rattle.ds_rule.specs.Pieces.{Each}
 use Rattle.ds_rule.specs.Shifts.{foreign_at}
 use Rattle.ds_rule.specs.Steady.{has_lease, ids_differ}
-use Rattle.ds_rule.specs.World.{World, Range, contents, start_of, end_of, Tiles}
+use Rattle.ds_rule.specs.World.{World, Range, contents, start_of, end_of, Tiles, holds_key, replaced}
 use Rattle.ds_rule.proofs.Puts.{contents-put}
 use Rattle.ds_rule.proofs.Routes.{le_itself}
 use Rattle.ds_rule.proofs.Tiling.{tiles-put}

@@ -6,10 +6,9 @@ use Rattle.ds_base.proofs.OrderedFacts.{le_of_lt, le_of_not_lt}
 use Rattle.ds_base.proofs.SmallFacts.{and_first, and_second, and_both, or_first, or_second, or_neither}
 use Rattle.ds_desc.specs.Descs.{GenerationsRise}
 use Rattle.ds_desc.specs.declared.desc.RangeDesc.{RangeDesc}
-use Rattle.ds_rule.specs.Moves.{holds_key}
 use Rattle.ds_rule.specs.Shifts.{can_join, joined, merge_in, unchanged}
 use Rattle.ds_rule.specs.Steady.{has_lease, ids_differ}
-use Rattle.ds_rule.specs.World.{Range, contents, start_of, end_of, Fits}
+use Rattle.ds_rule.specs.World.{Range, contents, start_of, end_of, Fits, holds_key}
 use Rattle.ds_rule.proofs.Routes.{ascends-append, inside-below, inside-from, le_itself}
 use Rattle.ds_world.proofs.Cells.{inside-both, inside-wider}
 use Rattle.ds_world.proofs.Newest.{IsOlder, newest-after, newest-made, rise-one}

@@ -12,9 +12,8 @@ use Rattle.ds_desc.specs.Descs.{AllNewer, GenerationsRise, Newer, containing, gr
 use Rattle.ds_desc.specs.declared.desc.RangeDesc.{RangeDesc}
 use Rattle.ds_cell.specs.Seen.{last_of}
 use Rattle.ds_rule.specs.Keeping.{IsNewest}
-use Rattle.ds_rule.specs.Moves.{holds_key}
 use Rattle.ds_rule.specs.Pieces.{Each}
-use Rattle.ds_rule.specs.World.{Range, start_of, end_of, Fits, Tiles}
+use Rattle.ds_rule.specs.World.{Range, start_of, end_of, Fits, Tiles, holds_key}
 use Rattle.ds_rule.proofs.Recorded.{last-cases}
 use Rattle.ds_rule.proofs.Routes.{le_itself}
 

@@ -5,9 +5,8 @@ use Rattle.ds_desc.specs.Descs.{back_from, containing, greatest_id}
 use Rattle.ds_desc.specs.Replicas.{AreReplicas}
 use Rattle.ds_desc.specs.declared.desc.RangeDesc.{RangeDesc}
 use Rattle.ds_rule.specs.Keeping.{Keeps}
-use Rattle.ds_rule.specs.Moves.{holds_key}
 use Rattle.ds_rule.specs.Shifts.{arming, behind, change_at, lease_in, lease_to, merge_at, merge_in, move_in, move_to, split_at, split_in, stale_by}
-use Rattle.ds_rule.specs.World.{World, Range, contents}
+use Rattle.ds_rule.specs.World.{World, Range, contents, holds_key}
 use Rattle.ds_world.proofs.Leases.{lease-keeps, move-keeps}
 use Rattle.ds_world.proofs.Merges.{merge-keeps}
 use Rattle.ds_world.proofs.Splits.{split-keeps}

@@ -9,11 +9,10 @@ use Rattle.ds_desc.specs.Contains.{contains}
 use Rattle.ds_desc.specs.Descs.{GenerationsRise, containing, greatest_id}
 use Rattle.ds_desc.specs.declared.desc.RangeDesc.{RangeDesc}
 use Rattle.ds_rule.specs.Keeping.{IsNewest}
-use Rattle.ds_rule.specs.Moves.{holds_key}
 use Rattle.ds_rule.specs.Pieces.{Each}
 use Rattle.ds_rule.specs.Shifts.{can_split, left_part, right_part, split_in, unchanged}
 use Rattle.ds_rule.specs.Steady.{has_lease}
-use Rattle.ds_rule.specs.World.{Range, contents, start_of, end_of, Fits, Tiles}
+use Rattle.ds_rule.specs.World.{Range, contents, start_of, end_of, Fits, Tiles, holds_key}
 use Rattle.ds_rule.proofs.Routes.{le_itself}
 use Rattle.ds_world.proofs.Cells.{ascends-filter, both-parts, high_cells, inside-high, inside-low, low_cells}
 use Rattle.ds_world.proofs.Newest.{id-known, last-beside, newest-after, newest-made, rise-one}

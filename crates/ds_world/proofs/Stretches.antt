@@ -8,11 +8,10 @@ use Rattle.ds_desc.specs.Descs.{GenerationsRise, greatest_id}
 use Rattle.ds_desc.specs.declared.desc.Info.{Info}
 use Rattle.ds_desc.specs.declared.desc.RangeDesc.{RangeDesc}
 use Rattle.ds_rule.specs.Keeping.{IsNewest, Keeps}
-use Rattle.ds_rule.specs.Moves.{holds_key}
 use Rattle.ds_rule.specs.Pieces.{Each}
 use Rattle.ds_rule.specs.Shifts.{Change, behind, change_at, shifted, unchanged}
 use Rattle.ds_rule.specs.Steady.{has_lease, ids_differ}
-use Rattle.ds_rule.specs.World.{World, Range, contents, end_of, Tiles}
+use Rattle.ds_rule.specs.World.{World, Range, contents, end_of, Tiles, holds_key}
 use Rattle.ds_world.proofs.Newest.{id-known, newest-beside, none-before}
 
 abbrev pub infos : List Range → List Info

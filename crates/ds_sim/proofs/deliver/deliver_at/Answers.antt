@@ -2,7 +2,8 @@ use Rattle.std.proofs.Common.{rules, ◌≡◌, Some, None, refl, sym, ◌∙◌
 use Rattle.std.proofs.lemmas.Option.{slice_get_read}
 use Rattle.std.specs.List.{slice_get}
 use Rattle.std.specs.Option.{option_map}
-use Rattle.ds_rule.specs.Deliver.{stops, stop_answer, has_id}
+use Rattle.ds_rule.specs.World.{has_id}
+use Rattle.ds_rule.specs.Deliver.{stops, stop_answer}
 use Rattle.ds_sim.specs.State.{world_of}
 use Rattle.ds_sim.proofs.Places.{found_low, find_placed}
 use Rattle.ds_sim.proofs.Delivering.{Delivers, turned, noted_ok, answer_ok, after_ok, serves_ok, same_read}

@@ -1,7 +1,7 @@
 use Rattle.std.proofs.Common.{rules, ◌≡◌, None, position}
 use Rattle.ds_desc.specs.declared.refusal.Refusal.TheVariants.{NotFound}
 use Rattle.ds_rule.specs.declared.answer.Answer.TheVariants.{Refused}
-use Rattle.ds_rule.specs.Deliver.{has_id}
+use Rattle.ds_rule.specs.World.{has_id}
 use Rattle.ds_sim.specs.State.{world_of}
 use Rattle.ds_sim.proofs.Places.{find_none}
 use Rattle.ds_sim.proofs.Delivering.{not_there, noted_ok, answer_ok, after_ok}

@@ -2,7 +2,7 @@ use Rattle.std.proofs.Common.{rules, ◌≡◌, Some, None, sym, position, lengt
 use Rattle.std.proofs.lemmas.Option.{slice_get_read}
 use Rattle.std.specs.List.{slice_get}
 use Rattle.ds_cell.specs.Store.{put_cell}
-use Rattle.ds_rule.specs.Moves.{holds_key}
+use Rattle.ds_rule.specs.World.{holds_key}
 use Rattle.ds_cell.specs.Change.{after_foreign}
 use Rattle.ds_sim.proofs.Places.{written, unwritten, written_tiles, unplaced, found_low}
 use Rattle.ds_sim.proofs.ranges.Ranges.foreign.Goals as goal
