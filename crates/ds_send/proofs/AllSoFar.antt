@@ -26,8 +26,8 @@ use Rattle.ds_rule.specs.Gathered.{Gathered}
 use Rattle.ds_rule.specs.Journal.{Happening, Accepted}
 use Rattle.ds_rule.specs.Law.{Did}
 use Rattle.ds_rule.specs.Pieces.{Each, IsOneOf, position_of}
-use Rattle.ds_rule.proofs.Gathering.{IsAtPosition, IsBelowPosition, joins-at, gathers-last, gathered-on, gathered-last}
-use Rattle.ds_rule.proofs.Trips.{trip-none, trip-then, then-added}
+use Rattle.ds_law.proofs.Gathering.{IsAtPosition, IsBelowPosition, joins-at, gathers-last, gathered-on, gathered-last}
+use Rattle.ds_law.proofs.Trips.{trip-none, trip-then, then-added}
 use Rattle.ds_send.specs.Sent.{AnsweredBy, StoppedBy, FailedOn, outcome_of}
 use Rattle.ds_send.specs.declared.tries.Tries.{Tries}
 

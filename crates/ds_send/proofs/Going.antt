@@ -25,10 +25,10 @@ use Rattle.ds_rule.specs.Journal.{Happening, Moved, Did, accepted_by, pairs}
 use Rattle.ds_rule.specs.Path.{GoesTo, holds_span}
 use Rattle.ds_rule.specs.Pieces.{PieceOf}
 use Rattle.ds_rule.specs.Gathered.{IsBody}
-use Rattle.ds_rule.proofs.Reading.{body-cut}
-use Rattle.ds_rule.proofs.Served.{First, first-served}
+use Rattle.ds_law.proofs.Reading.{body-cut}
+use Rattle.ds_law.proofs.Served.{First, first-served}
 use Rattle.ds_rule.proofs.Routes.{le_itself}
-use Rattle.ds_rule.proofs.Trips.{trip-step, trip-sent, sent-added}
+use Rattle.ds_law.proofs.Trips.{trip-step, trip-sent, sent-added}
 use Rattle.ds_send.specs.Sent.{FailedAt}
 
 first_of_list : (rs : List Reply) (r : Reply) → slice_get rs 0 ≡ Some r → (rest : List Reply) × (rs ≡ r ∷ rest)

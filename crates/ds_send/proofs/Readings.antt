@@ -21,7 +21,7 @@ use Rattle.ds_rule.specs.Law.{IsProperRead, IsReading, LeadsTo}
 use Rattle.ds_rule.specs.Pieces.{Each}
 use Rattle.ds_rule.specs.Plain.{counted_store}
 use Rattle.ds_rule.specs.StandsFor.{StandsFor}
-use Rattle.ds_rule.proofs.ReadLaw.{like-counted, stands-like}
+use Rattle.ds_law.proofs.ReadLaw.{like-counted, stands-like}
 use Rattle.ds_send.proofs.AllSoFar.{proper-some}
 use Rattle.ds_send.specs.Batch.{is_built, is_built_request, is_plain_read}
 use Rattle.ds_send.specs.Sent.{is_whole}

@@ -32,7 +32,7 @@ use Rattle.ds_rule.specs.Journal.{Happening, Moved, Did, Accepted, accepted_by}
 use Rattle.ds_rule.specs.Path.{GoesTo, IsRouted, IsStepOf, holds_span}
 use Rattle.ds_rule.specs.Pieces.{Each, IsOneOf, IsCut, PieceOf}
 use Rattle.ds_rule.proofs.Routes.{le_itself}
-use Rattle.ds_rule.proofs.Trips.{trip-none, trip-step, trip-then, step-added, then-added, none-added}
+use Rattle.ds_law.proofs.Trips.{trip-none, trip-step, trip-then, step-added, then-added, none-added}
 use Rattle.ds_send.specs.Sent.{IsWholeSendable, IsTold, InVain, ServedOnce, FailedOnce, WideOnce, LostOnce}
 use Rattle.ds_send.proofs.Cuts.{goes-forward}
 use Rattle.ds_send.proofs.Going.{IsSent, before_send, sent-trip, trip-added}

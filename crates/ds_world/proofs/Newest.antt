@@ -14,7 +14,7 @@ use Rattle.ds_cell.specs.Seen.{last_of}
 use Rattle.ds_rule.specs.Keeping.{IsNewest}
 use Rattle.ds_rule.specs.Pieces.{Each}
 use Rattle.ds_rule.specs.World.{Range, start_of, end_of, Fits, Tiles, holds_key}
-use Rattle.ds_rule.proofs.Recorded.{last-cases}
+use Rattle.ds_rule.proofs.Lasts.{last-cases}
 use Rattle.ds_rule.proofs.Routes.{le_itself}
 
 and_false : (t : Bool) → (t && false) ≡ false

@@ -16,10 +16,10 @@ use Rattle.ds_cell.specs.Store.{WriteAt, put_cell, settle_all}
 use Rattle.ds_rule.specs.Asking.{Made, Gives, ask_all, at_of, txn_of}
 use Rattle.ds_rule.specs.Pieces.{Each}
 use Rattle.ds_rule.specs.World.{Inside}
-use Rattle.ds_rule.proofs.Kept.{IsKept, Keeps, all-keeps}
+use Rattle.ds_law.proofs.Kept.{IsKept, Keeps, all-keeps}
 use Rattle.ds_rule.proofs.Puts.{put-at}
-use Rattle.ds_rule.proofs.Replacing.{not-both}
-use Rattle.ds_rule.proofs.Standing.{none-last}
+use Rattle.ds_law.proofs.Replacing.{not-both}
+use Rattle.ds_rule.proofs.Lasts.{none-last}
 use Rattle.ds_cell.specs.StoreProofs.{ascends-insert}
 use Rattle.ds_rule.proofs.Tiling.{inside-insert}
 

@@ -1,34 +1,33 @@
 -- The bodies of a read's pieces join to the body of the whole.
-use Rattle.std.proofs.Common.{◌≡◌, ℕ, Bool, true, false, cond, ◌&&◌, List, [], ◌∷◌, ◌++◌, map, filter, Option, Some, None, refl, sym, ap, ◌∙◌, subst}
+use Rattle.std.proofs.Common.{◌≡◌, ℕ, true, false, cond, ◌&&◌, List, [], ◌∷◌, map, None, refl, sym, ap, ◌∙◌, subst}
 use Rattle.ds_base.specs.Order.{key_lt, key_le, holds, after}
 use Rattle.ds_base.specs.Ordered.{Ascends, between}
 use Rattle.ds_base.proofs.KeyOrder.{below-after, key_lt-irrefl}
 use Rattle.ds_base.proofs.OrderedFacts.{le_of_lt, le_trans, not_lt_of_le, cut}
 use Rattle.ds_kind.specs.Asks.{is_get_or_scan}
 use Rattle.ds_kind.specs.Flags.{flags_of}
-use Rattle.ds_kind.specs.Reach.{Reach, Over}
+use Rattle.ds_kind.specs.Reach.{Over}
 use Rattle.ds_kind.specs.Request.{cut_to, kind_of, reach_of, span_of}
 use Rattle.ds_base.specs.declared.value.Seq.{Seq}
 use Rattle.ds_kind.specs.declared.reads.GetArgs.{GetArgs}
 use Rattle.ds_kind.specs.declared.batch.Head.{Head}
 use Rattle.ds_kind.specs.declared.batch.Item.{Item}
 use Rattle.ds_kind.specs.declared.reply.Body.{Body}
-use Rattle.ds_kind.specs.declared.reply.Body.TheVariants as Body
 use Rattle.ds_kind.specs.declared.reply.Reply.{Reply}
 use Rattle.ds_kind.specs.declared.request.Request.{Request}
 use Rattle.ds_kind.specs.declared.request.Request.TheVariants.{Get, Scan, ReverseScan, Put, ConditionalPut, InitPut, Increment, Delete, DeleteRange, EndTxn, QueryIntent, ResolveIntent, ResolveIntentRange, AdminSplit, AdminTransferLease}
 use Rattle.ds_cell.specs.Ask.{Cells, key_of, places}
 use Rattle.ds_kind.specs.Bodies.{goes_down, join_bodies}
-use Rattle.ds_cell.specs.Replies.{body_of, value_in}
+use Rattle.ds_cell.specs.Replies.{body_of}
 use Rattle.ds_cell.specs.Seen.{seen}
 use Rattle.ds_cell.specs.BodyProofs.{bodies_join}
-use Rattle.ds_rule.specs.Asking.{Asking, Gives, ask_all, at_of}
+use Rattle.ds_rule.specs.Asking.{Gives, ask_all, at_of}
 use Rattle.ds_rule.specs.Gathered.{begins_at, put_by_start, by_start, is_at, at_position, Joins, IsGathered, Gathered}
 use Rattle.ds_rule.specs.Journal.{Accepted}
 use Rattle.ds_rule.specs.Pieces.{Each}
-use Rattle.ds_rule.proofs.Reading.{read_bits, shown_by, shown-append, body-cut}
+use Rattle.ds_law.proofs.Reading.{read_bits, shown_by, shown-append, body-cut}
 use Rattle.ds_rule.proofs.Routes.{le_itself}
-use Rattle.ds_rule.proofs.Truth.{IsRead, IsTrue, reply_of, all-read}
+use Rattle.ds_law.proofs.Truth.{IsRead, IsTrue, reply_of, all-read}
 
 -- what holds of all that was accepted holds of what was accepted at one position, in any order
 

@@ -1,5 +1,5 @@
 -- What a batch's writes keep, and where they stand.
-use Rattle.std.proofs.Common.{◌≡◌, ℕ, true, false, cond, List, [], ◌∷◌, ◌++◌, Option, refl}
+use Rattle.std.proofs.Common.{◌≡◌, ℕ, true, false, cond, List, [], ◌∷◌, Option, refl}
 use Rattle.std.specs.List.{list_all}
 use Rattle.ds_base.specs.Order.{holds}
 use Rattle.ds_base.specs.Ordered.{between}
@@ -23,7 +23,7 @@ use Rattle.ds_rule.specs.Asking.{Made, Gives, Fails, and_before, and_then, made_
 use Rattle.ds_rule.specs.Deliver.{holds_item}
 use Rattle.ds_rule.specs.Pieces.{Each}
 use Rattle.ds_rule.specs.World.{Range, start_of, end_of}
-use Rattle.ds_rule.proofs.Alike.{in-range}
+use Rattle.ds_law.proofs.Alike.{in-range}
 
 -- what each write at a key of N keeps
 

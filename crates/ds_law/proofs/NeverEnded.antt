@@ -24,9 +24,9 @@ use Rattle.ds_rule.specs.Pieces.{Each, PieceOf}
 use Rattle.ds_rule.specs.Plain.{is_pending}
 use Rattle.ds_rule.specs.StandsFor.{HasRecordOf, IsWho, Knows, Ready, record_for, record_number}
 use Rattle.ds_rule.specs.World.{World, Range, has_id}
-use Rattle.ds_rule.proofs.Failing.{ByItem, ByRecord, Why, none-named, runs-cut, status_of, why}
-use Rattle.ds_rule.proofs.Own.{IsOfRecord, never-of-record}
-use Rattle.ds_rule.proofs.Recorded.{Pends, find-last, known-last}
+use Rattle.ds_law.proofs.Failing.{ByItem, ByRecord, Why, none-named, runs-cut, status_of, why}
+use Rattle.ds_law.proofs.Own.{IsOfRecord, never-of-record}
+use Rattle.ds_law.proofs.Recorded.{Pends, find-last, known-last}
 
 -- steps leave the records as they are
 

@@ -1,27 +1,16 @@
 -- The record of the open transaction, which is the last.
-use Rattle.std.proofs.Common.{◌≡◌, ℕ, ◌<◌, ◌⊎◌, Bool, true, false, cond, ◌==◌, List, [], ◌∷◌, Option, Some, None, inl, inr, refl, sym, ap, ◌∙◌, subst, eq-eqb, ne_eqb, arith}
+use Rattle.std.proofs.Common.{◌≡◌, ℕ, ◌<◌, true, false, cond, ◌==◌, List, [], ◌∷◌, Option, Some, None, inl, inr, refl, sym, ap, ◌∙◌, subst, eq-eqb, ne_eqb, arith}
 use Rattle.std.specs.List.{find}
-use Rattle.std.specs.Option.{option_or}
 use Rattle.ds_base.specs.declared.value.TxnNo.{TxnNo}
-use Rattle.ds_base.proofs.SmallFacts.{some_same}
 use Rattle.ds_cell.specs.Content.{AllAbove, Rises}
 use Rattle.ds_cell.specs.Seen.{last_of}
 use Rattle.ds_cell.specs.Store.{StoreTxn, Mode, Live, FailedSince, Unknown, OverWith, Fate, Pending, Committed, Aborted}
-use Rattle.ds_cell.proofs.LatestFacts.{last_where-cons}
 use Rattle.ds_rule.specs.declared.record.TxnRecord.{TxnRecord}
 use Rattle.ds_rule.specs.Asking.{txn_number}
 use Rattle.ds_rule.specs.Deliver.{status_stops}
 use Rattle.ds_rule.specs.Plain.{is_pending}
 use Rattle.ds_rule.specs.StandsFor.{HasRecord, HasRecordOf, IsKnown, IsWho, Knows, record_for, record_number}
-use Rattle.ds_rule.proofs.Standing.{none-last}
-
--- the last of a list that has more is that of the rest
-pub last-cases : {X : Type 0} (t : X) (ts : List X) (x : X) → last_of (t ∷ ts) ≡ Some x → ((ts ≡ []) × (t ≡ x)) ⊎ (last_of ts ≡ Some x)
-last-cases t ts x h = by (last_of ts) refl
-  where
-    by : (o : Option _) → last_of ts ≡ o → ((ts ≡ []) × (t ≡ x)) ⊎ (last_of ts ≡ Some x)
-    by None e = inl (none-last ts e, some_same t x (sym (ap (λ o. option_or o (Some t)) e) ∙ sym (last_where-cons (λ _. true) t ts) ∙ h))
-    by (Some y) e = inr (e ∙ sym (ap (λ o. option_or o (Some t)) e) ∙ sym (last_where-cons (λ _. true) t ts) ∙ h)
+use Rattle.ds_rule.proofs.Lasts.{last-cases}
 
 above-last : (n : ℕ) (ts : List TxnRecord) (x : TxnRecord) → AllAbove record_number n ts → last_of ts ≡ Some x → n < record_number x
 above-last n [] x all h = cc

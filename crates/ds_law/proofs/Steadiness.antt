@@ -33,7 +33,7 @@ use Rattle.ds_rule.specs.Path.{AreRouted, GoesTo, IsRouted, route_by}
 use Rattle.ds_rule.specs.Pieces.{Each, IsOneOf}
 use Rattle.ds_rule.specs.Steady.{Steady, has_lease, ids_differ, infos_in}
 use Rattle.ds_rule.specs.World.{World, Range, from_first, in_order, look_rows, look_world, rows_at, without_first, has_id, holds_key, replaced}
-use Rattle.ds_rule.proofs.Failing.{status_of}
+use Rattle.ds_law.proofs.Failing.{status_of}
 
 -- at first
 

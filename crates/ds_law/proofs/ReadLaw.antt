@@ -1,5 +1,5 @@
 -- The law of reads.
-use Rattle.std.proofs.Common.{◌≡◌, ℕ, ◌<◌, ◌≤◌, ◌+◌, ◌⊎◌, Bool, true, false, cond, List, [], ◌∷◌, ◌++◌, length, Option, Some, None, refl, sym, ap, ◌∙◌, subst, arith}
+use Rattle.std.proofs.Common.{◌≡◌, ℕ, ◌<◌, ◌≤◌, ◌+◌, ◌⊎◌, Bool, true, false, cond, List, [], ◌∷◌, length, Option, Some, None, refl, sym, ap, ◌∙◌, subst, arith}
 use Rattle.std.specs.Option.{option_map}
 use Rattle.ds_base.specs.declared.value.Stamp.{Stamp}
 use Rattle.ds_base.specs.declared.value.TxnNo.{TxnNo}
@@ -9,34 +9,32 @@ use Rattle.ds_kind.specs.declared.batch.Batch.{Batch}
 use Rattle.ds_kind.specs.declared.batch.Head.{Head}
 use Rattle.ds_kind.specs.declared.batch.Item.{Item}
 use Rattle.ds_kind.specs.declared.reply.Failure.{Failure}
-use Rattle.ds_kind.specs.declared.reply.Failure.TheVariants as Failure
 use Rattle.ds_kind.specs.declared.reply.Reply.{Reply}
 use Rattle.ds_kind.specs.declared.request.Request.{Request}
 use Rattle.ds_cell.specs.Ask.{content_at}
 use Rattle.ds_cell.specs.Content.{Content}
 use Rattle.ds_cell.specs.Seen.{last_of}
 use Rattle.ds_cell.specs.Store.{Store, StoreTxn, Asker, WriteAt, Mode, Live, FailedSince, Unknown, OverWith}
-use Rattle.ds_rule.specs.declared.answer.Answer.TheVariants.{Done, Failed, Refused, Lost}
+use Rattle.ds_rule.specs.declared.answer.Answer.TheVariants.{Failed}
 use Rattle.ds_rule.specs.declared.answer.Outcome.{Outcome}
-use Rattle.ds_rule.specs.declared.answer.Outcome.TheVariants as Outcome
-use Rattle.ds_rule.specs.declared.journal.JournalStep.TheVariants.{Look, Send}
+use Rattle.ds_rule.specs.declared.journal.JournalStep.TheVariants.{Send}
 use Rattle.ds_rule.specs.declared.record.TxnRecord.{TxnRecord}
-use Rattle.ds_rule.specs.Asking.{Asking, Gives, ask_all, asking, asking_by, head_of, numbered, finished, txn_of, txn_number}
+use Rattle.ds_rule.specs.Asking.{Asking, asking, asking_by, head_of, numbered, finished, txn_of, txn_number}
 use Rattle.ds_rule.specs.Clauses.{Stands}
-use Rattle.ds_rule.specs.Gathered.{Gathered, IsGathered, by_start, at_position}
-use Rattle.ds_rule.specs.Journal.{Happening, Did as Stepped, Runs, Accepted, accepted}
+use Rattle.ds_rule.specs.Gathered.{Gathered, by_start, at_position}
+use Rattle.ds_rule.specs.Journal.{Did as Stepped, Runs, Accepted, accepted}
 use Rattle.ds_rule.specs.Cause.{LastFails}
-use Rattle.ds_rule.specs.Law.{Did, LeadsTo, IsPlainFor, IsProperRead, IsReading, IsGiven, ReadLaw}
+use Rattle.ds_rule.specs.Law.{LeadsTo, IsProperRead, IsReading, ReadLaw}
 use Rattle.ds_rule.specs.Path.{Path, IsHigh, IsOf}
 use Rattle.ds_rule.specs.Pieces.{Each}
-use Rattle.ds_rule.specs.Plain.{Answered, IsPlainOk, IsInDoubt, uses_numbers, asker_after, counted_txn, if_of_txn, counted_store, failed_mode, failed_txn, failed_store, is_pending, is_rollback, finds_pending, in_doubt, doubtful, count_numbered, asker_in}
+use Rattle.ds_rule.specs.Plain.{Answered, uses_numbers, counted_txn, if_of_txn, counted_store, failed_mode, failed_txn, failed_store, is_pending, is_rollback, finds_pending, in_doubt, doubtful, count_numbered, asker_in}
 use Rattle.ds_rule.specs.StandsFor.{IsAt, open_stamp, IsIntentOf, HasRecord, HasRecordOf, record_for, status_for, StandsFor, after_made, IsBefore, IsKnown, IsWho, Knows, Ready}
 use Rattle.ds_rule.specs.World.{World, cell_of}
-use Rattle.ds_rule.proofs.Course.{OnWay, IsPlain, Arrived, course}
-use Rattle.ds_rule.proofs.Failing.{reads-fail, nothing-stops, runs-cut}
-use Rattle.ds_rule.proofs.Joining.{gathered-asks, joined-some}
-use Rattle.ds_rule.proofs.Recorded.{Pends, known-last}
-use Rattle.ds_rule.proofs.Truth.{IsRead, IsTrue, cuts-read, finished-nothing}
+use Rattle.ds_law.proofs.Course.{OnWay, IsPlain, Arrived, course}
+use Rattle.ds_law.proofs.Failing.{reads-fail, nothing-stops, runs-cut}
+use Rattle.ds_law.proofs.Joining.{gathered-asks, joined-some}
+use Rattle.ds_law.proofs.Recorded.{Pends, known-last}
+use Rattle.ds_law.proofs.Truth.{IsRead, IsTrue, cuts-read, finished-nothing}
 
 -- a transaction whose counts or mode changed is the same in the world
 

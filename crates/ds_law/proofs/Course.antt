@@ -1,8 +1,8 @@
 -- The course of a batch that only reads: what it is answered on the way, and where the world stands at its end.
-use Rattle.std.proofs.Common.{◌≡◌, ℕ, ◌<◌, ◌≤◌, Bool, true, false, cond, ◌&&◌, ◌==◌, List, [], ◌∷◌, ◌++◌, map, Option, Some, None, inl, inr, refl, sym, ap, ◌∙◌, subst, arith}
+use Rattle.std.proofs.Common.{◌≡◌, ℕ, ◌<◌, ◌≤◌, Bool, true, false, cond, ◌==◌, List, [], ◌∷◌, ◌++◌, map, Option, Some, None, inl, inr, refl, sym, ap, ◌∙◌, subst, arith}
 use Rattle.std.specs.List.{find, list_all}
 use Rattle.std.specs.Option.{option_map}
-use Rattle.ds_base.specs.Order.{key_lt, key_le}
+use Rattle.ds_base.specs.Order.{key_le}
 use Rattle.ds_base.specs.Ordered.{key_eq, Ascends}
 use Rattle.ds_base.specs.declared.value.TxnNo.{TxnNo}
 use Rattle.ds_base.proofs.SmallFacts.{and_first, and_second}
@@ -19,30 +19,28 @@ use Rattle.ds_cell.specs.Content.{Content}
 use Rattle.ds_cell.specs.Ask.{Cells, key_of, content_at}
 use Rattle.ds_cell.specs.Replies.{body_of}
 use Rattle.ds_cell.specs.Seen.{seen, newest, own, value_seen}
-use Rattle.ds_cell.specs.Store.{Store, StoreTxn, Mode, Live, FailedSince, Unknown, OverWith, Fate, Pending, Committed, Aborted, WriteAt, with_version, put_cell}
+use Rattle.ds_cell.specs.Store.{Store, StoreTxn, Mode, Live, FailedSince, Unknown, OverWith, Fate, Pending, Committed, Aborted, WriteAt, with_version}
 use Rattle.ds_cell.proofs.LaterFacts.{version_at-made}
 use Rattle.ds_rule.specs.declared.answer.Answer.TheVariants.{Done, Failed, Refused, Lost}
-use Rattle.ds_rule.specs.declared.journal.JournalStep.{JournalStep}
 use Rattle.ds_rule.specs.declared.journal.JournalStep.TheVariants.{Look, Send}
 use Rattle.ds_rule.specs.declared.event.Event.{Event}
-use Rattle.ds_rule.specs.declared.event.Event.TheVariants as Event
 use Rattle.ds_rule.specs.Asking.{Asking, Gives, at_of, txn_of}
 use Rattle.ds_rule.specs.Clauses.{IsAbove}
 use Rattle.ds_rule.specs.Deliver.{holds_item, deliver_world, status_stops}
-use Rattle.ds_rule.specs.Journal.{Happening, Moved, Did, Does, Runs, Accepted, accepted, accepted_by, pairs}
+use Rattle.ds_rule.specs.Journal.{Happening, Moved, Did, Does, Runs, Accepted, accepted, pairs}
 use Rattle.ds_rule.specs.Moves.{moved}
-use Rattle.ds_rule.specs.Path.{IsHigh, IsOf, IsStepOf}
+use Rattle.ds_rule.specs.Path.{IsHigh, IsOf}
 use Rattle.ds_rule.specs.Pieces.{Each, PieceOf}
 use Rattle.ds_rule.specs.Plain.{after_event, abort_txn, aborted_by, is_pending}
 use Rattle.ds_rule.specs.StandsFor.{StandsFor, IsIntentOf, IsAt, IsWho, Knows, open_stamp, IsBefore, after_made}
-use Rattle.ds_rule.specs.World.{World, Range, start_of, end_of, contents, cell_of, has_id}
+use Rattle.ds_rule.specs.World.{World, Range, start_of, contents, cell_of, has_id}
 use Rattle.ds_rule.proofs.Puts.{put-at}
-use Rattle.ds_rule.proofs.Reading.{read_bits, same-read, same-places, shown_by, seen-same, seen-settled}
+use Rattle.ds_law.proofs.Reading.{read_bits, same-read, same-places, shown_by, seen-same, seen-settled}
 use Rattle.ds_rule.proofs.Routes.{range-between, contents-ascend}
-use Rattle.ds_rule.proofs.Recorded.{Pends, pends}
+use Rattle.ds_law.proofs.Recorded.{Pends, pends}
 use Rattle.ds_rule.proofs.Service.{Service, service, held, takes}
-use Rattle.ds_rule.proofs.Standing.{stands-moved}
-use Rattle.ds_rule.proofs.Truth.{IsRead, IsTrue, reply_of, all-read, cuts-read, reads-stay, looks-stay}
+use Rattle.ds_law.proofs.Standing.{stands-moved}
+use Rattle.ds_law.proofs.Truth.{IsRead, IsTrue, reply_of, all-read, cuts-read, reads-stay, looks-stay}
 
 -- what the batch sees at each key of the one store, it sees of the other
 abbrev pub SeesSame : Head → Store → Store → Type 0

@@ -1,30 +1,24 @@
 -- Requests that only read.
-use Rattle.std.proofs.Common.{◌≡◌, ℕ, ◌<◌, ◌≤◌, Bool, true, false, cond, ◌==◌, List, [], ◌∷◌, ◌++◌, Option, Some, None, refl, sym, ap, ◌∙◌, subst, fold, arith}
-use Rattle.ds_base.specs.Order.{key_lt, key_le, holds, after}
+use Rattle.std.proofs.Common.{◌≡◌, ℕ, ◌<◌, ◌≤◌, true, cond, ◌==◌, List, [], ◌∷◌, ◌++◌, Option, None, refl, sym, ap, ◌∙◌, subst, fold, arith}
+use Rattle.ds_base.specs.Order.{after}
 use Rattle.ds_base.specs.Ordered.{Ascends, at_key, between}
-use Rattle.ds_base.proofs.KeyOrder.{below-after, key_lt-irrefl}
-use Rattle.ds_base.proofs.OrderedFacts.{at_key-between, le_of_lt, le_trans}
+use Rattle.ds_base.proofs.OrderedFacts.{at_key-between}
 use Rattle.ds_base.specs.declared.value.Value.{Value}
 use Rattle.ds_kind.specs.Asks.{is_get_or_scan}
-use Rattle.ds_kind.specs.Flags.{flags_of}
 use Rattle.ds_kind.specs.Reach.{Reach, At, Over, extent_of}
-use Rattle.ds_kind.specs.Request.{kind_of, reach_of, span_of, cut_to}
+use Rattle.ds_kind.specs.Request.{reach_of, cut_to}
 use Rattle.ds_kind.specs.declared.request.Request.{Request}
 use Rattle.ds_kind.specs.declared.request.Request.TheVariants.{Get, Scan, ReverseScan, Put, ConditionalPut, InitPut, Increment, Delete, DeleteRange, EndTxn, QueryIntent, ResolveIntent, ResolveIntentRange, AdminSplit, AdminTransferLease}
-use Rattle.ds_kind.specs.declared.reply.Body.{Body}
 use Rattle.ds_cell.specs.declared.entry.At.{At as Who}
 use Rattle.ds_cell.specs.declared.entry.Version.{Version}
 use Rattle.ds_cell.specs.declared.verdict.Verdict.{Verdict}
 use Rattle.ds_cell.specs.declared.verdict.Verdict.TheVariants.{Keep}
-use Rattle.ds_cell.specs.declared.verdict.Bit.{Bit}
 use Rattle.ds_cell.specs.declared.verdict.Bit.TheVariants.{Value as Shown}
 use Rattle.ds_cell.specs.Content.{Content, AllAbove, stamp_of}
 use Rattle.ds_cell.specs.Seen.{seen, own, held, newest, too_old, value_seen, version_at}
 use Rattle.ds_cell.specs.Change.{made}
-use Rattle.ds_cell.specs.Deed.{deed}
-use Rattle.ds_cell.specs.Kinds.{judge_read, nothing}
-use Rattle.ds_cell.specs.Ask.{Cell, Cells, key_of, content_of, content_at, Asked, Failed, Gave, one_more, ask_each, ask, places, joined}
-use Rattle.ds_cell.specs.LawProofs.{guarded-keep, own_span, join_all}
+use Rattle.ds_cell.specs.Ask.{Cells, key_of, content_of, content_at, Gave, one_more, ask_each, places}
+use Rattle.ds_cell.specs.LawProofs.{guarded-keep, own_span}
 use Rattle.ds_cell.specs.Replies.{Bits, body_of}
 use Rattle.ds_cell.specs.Requests.{deed_of, ask_request, SameAnswer}
 use Rattle.ds_cell.specs.KeyProofs.{by_key}

@@ -5,14 +5,13 @@ use Rattle.ds_base.proofs.SmallFacts.{append_nil, none_some}
 use Rattle.ds_base.specs.declared.value.Stamp.{Stamp}
 use Rattle.ds_base.specs.declared.value.TxnNo.{TxnNo}
 use Rattle.ds_rule.proofs.Eachs.{each-append, each-left, each-right}
-use Rattle.ds_rule.proofs.ReadLaw.{each-read}
+use Rattle.ds_law.proofs.ReadLaw.{each-read}
 use Rattle.ds_desc.specs.declared.desc.RangeDesc.{RangeDesc}
 use Rattle.ds_kind.specs.declared.batch.Batch.{Batch}
 use Rattle.ds_kind.specs.declared.batch.Head.{Head}
 use Rattle.ds_kind.specs.declared.batch.Item.{Item}
 use Rattle.ds_kind.specs.declared.batch.Piece.{Piece}
 use Rattle.ds_kind.specs.declared.reply.Failure.{Failure}
-use Rattle.ds_kind.specs.declared.reply.Failure.TheVariants as Failure
 use Rattle.ds_kind.specs.declared.reply.Reply.{Reply}
 use Rattle.ds_kind.specs.declared.request.Request.{Request}
 use Rattle.ds_cell.specs.Ask.{Cells}
@@ -20,7 +19,6 @@ use Rattle.ds_cell.specs.Store.{Store, StoreTxn, Asker, WriteAt}
 use Rattle.ds_rule.specs.declared.answer.Answer.{Answer}
 use Rattle.ds_rule.specs.declared.answer.Answer.TheVariants.{Done, Failed, Lost}
 use Rattle.ds_rule.specs.declared.answer.Outcome.{Outcome}
-use Rattle.ds_rule.specs.declared.answer.Outcome.TheVariants as Outcome
 use Rattle.ds_rule.specs.declared.journal.JournalStep.TheVariants.{Send}
 use Rattle.ds_rule.specs.Asking.{Asking, Gives, Fails, ask_all, asking_by, finished, txn_of, txn_number}
 use Rattle.ds_rule.specs.Cause.{IsIdle, IsWholeOf, LastFails, LastLost, LastServes, TooWide}
@@ -33,14 +31,14 @@ use Rattle.ds_rule.specs.Pieces.{Each}
 use Rattle.ds_rule.specs.Plain.{Answered, asker_in, counted_txn, if_of_txn, counted_store, failed_txn, failed_store, finds_pending}
 use Rattle.ds_rule.specs.StandsFor.{StandsFor, Ready}
 use Rattle.ds_rule.specs.World.{World, start_of, end_of, has_id}
-use Rattle.ds_rule.proofs.Alike.{Alike, all-alike}
-use Rattle.ds_rule.proofs.Course.{OnWay, IsPlain, course}
-use Rattle.ds_rule.proofs.Failing.{status_of, Why, ByRecord, ByItem, why, reads-fail, nothing-stops, runs-cut}
-use Rattle.ds_rule.proofs.Own.{never-of-record}
-use Rattle.ds_rule.proofs.Quiet.{quiet-made, idle-stands}
+use Rattle.ds_law.proofs.Alike.{Alike, all-alike}
+use Rattle.ds_law.proofs.Course.{OnWay, IsPlain, course}
+use Rattle.ds_law.proofs.Failing.{status_of, Why, ByRecord, ByItem, why, reads-fail, nothing-stops, runs-cut}
+use Rattle.ds_law.proofs.Own.{never-of-record}
+use Rattle.ds_law.proofs.Quiet.{quiet-made, idle-stands}
 use Rattle.ds_rule.proofs.Service.{service, held}
-use Rattle.ds_rule.proofs.Truth.{IsRead, reply_of, all-read, finished-nothing}
-use Rattle.ds_rule.proofs.Writing.{plainly, range-both, alike-fails, Answers, writes-answer}
+use Rattle.ds_law.proofs.Truth.{IsRead, reply_of, all-read, finished-nothing}
+use Rattle.ds_law.proofs.Writing.{plainly, range-both, alike-fails, Answers, writes-answer}
 
 -- a batch with a stamp is of no transaction
 

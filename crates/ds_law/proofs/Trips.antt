@@ -1,5 +1,5 @@
 -- Ways that one call of a sender goes, one after the other.
-use Rattle.std.proofs.Common.{◌≡◌, ℕ, ◌+◌, ◌≤◌, ◌<◌, true, false, nat_lt, List, [], ◌∷◌, ◌++◌, map, Option, Some, None, inl, inr, refl, sym, ap, ◌∙◌, subst, append_assoc, arith}
+use Rattle.std.proofs.Common.{◌≡◌, ℕ, ◌+◌, ◌≤◌, true, false, nat_lt, List, [], ◌∷◌, ◌++◌, map, Option, Some, None, inl, inr, refl, sym, ap, ◌∙◌, subst, append_assoc, arith}
 use Rattle.ds_base.specs.declared.value.Dir.{Dir}
 use Rattle.ds_base.specs.declared.value.Dir.TheVariants.{Forward}
 use Rattle.ds_base.specs.Counts.{Rose, last_count}

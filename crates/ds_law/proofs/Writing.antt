@@ -18,11 +18,11 @@ use Rattle.ds_rule.specs.Deliver.{holds_item, with_cells, world_made, world_at, 
 use Rattle.ds_rule.specs.Pieces.{Each}
 use Rattle.ds_rule.specs.StandsFor.{StandsFor, IsAt, IsIntentOf, open_stamp}
 use Rattle.ds_rule.specs.World.{World, Range, start_of, end_of, contents, cell_of, Inside, has_id, replaced}
-use Rattle.ds_rule.proofs.Alike.{Both, Alike, all-alike, settle-both}
-use Rattle.ds_rule.proofs.Kept.{Within, all-within}
-use Rattle.ds_rule.proofs.Replacing.{given-in, given-out, given-tiles, found-fits, range-at}
+use Rattle.ds_law.proofs.Alike.{Both, Alike, all-alike, settle-both}
+use Rattle.ds_law.proofs.Kept.{Within, all-within}
+use Rattle.ds_law.proofs.Replacing.{given-in, given-out, given-tiles, found-fits, range-at}
 use Rattle.ds_rule.proofs.Service.{Service, held}
-use Rattle.ds_rule.proofs.Settling.{IsClear, clear-again, Outside, stays-outside, stays-inside}
+use Rattle.ds_law.proofs.Settling.{IsClear, clear-again, Outside, stays-outside, stays-inside}
 
 -- where no transaction is open the world and the store hold the same at each key, with no intent
 

@@ -17,8 +17,9 @@ use Rattle.ds_rule.specs.Begin.{ranges_of, first_world}
 use Rattle.ds_rule.specs.Close.{new_record, with_begin, settle_cells, settle_range, settle_by, commit_of, closed, close_status, status_of_last, said_status}
 use Rattle.ds_rule.specs.StandsFor.{IsAt, AllUpTo, open_stamp, IsIntentOf, HasRecord, HasRecordOf, IsKnown, status_for, record_for, record_number, StandsFor}
 use Rattle.ds_rule.specs.World.{World, Range, end_of, contents, cell_of, Inside, Tiles}
-use Rattle.ds_rule.proofs.Recorded.{known-last}
-use Rattle.ds_rule.proofs.Standing.{none-last, rises-last, above-with_last, up-to-last}
+use Rattle.ds_law.proofs.Recorded.{known-last}
+use Rattle.ds_rule.proofs.Lasts.{none-last}
+use Rattle.ds_law.proofs.Standing.{rises-last, above-with_last, up-to-last}
 
 -- at first nothing is held
 

@@ -18,7 +18,7 @@ use Rattle.ds_rule.specs.Law.{IsQuiet}
 use Rattle.ds_rule.specs.Pieces.{Each}
 use Rattle.ds_rule.specs.StandsFor.{StandsFor, after_made}
 use Rattle.ds_rule.specs.World.{World, Range, has_id}
-use Rattle.ds_rule.proofs.Truth.{looks-stay}
+use Rattle.ds_law.proofs.Truth.{looks-stay}
 
 -- a store that nothing happens to beside the steps stays as it is
 pub quiet-made : (hs : List Happening) (p : Store) → Each IsQuiet hs → after_made hs p ≡ p

@@ -1,5 +1,5 @@
 -- What a batch that only reads can fail with: its transaction's record alone.
-use Rattle.std.proofs.Common.{◌≡◌, ℕ, ◌<◌, Bool, true, false, cond, not, ◌==◌, List, [], ◌∷◌, ◌++◌, map, Option, Some, None, refl, sym, ap, ◌∙◌, subst, ne_eqb, arith}
+use Rattle.std.proofs.Common.{◌≡◌, ℕ, ◌<◌, Bool, true, false, cond, not, ◌==◌, List, [], ◌∷◌, ◌++◌, Option, Some, None, refl, sym, ap, ◌∙◌, ne_eqb, arith}
 use Rattle.std.specs.List.{find, list_all, list_any}
 use Rattle.ds_desc.specs.declared.refusal.Refusal.{Refusal}
 use Rattle.ds_desc.specs.declared.refusal.Refusal.TheVariants.{NotFound, NotLease, Mismatch}
@@ -8,8 +8,7 @@ use Rattle.ds_kind.specs.declared.reply.Failure.{Failure}
 use Rattle.ds_kind.specs.declared.reply.Reply.{Reply}
 use Rattle.ds_cell.specs.Ask.{Cells}
 use Rattle.ds_cell.specs.Content.{AllAbove}
-use Rattle.ds_rule.specs.declared.answer.Answer.{Answer}
-use Rattle.ds_rule.specs.declared.answer.Answer.TheVariants.{Done, Failed, Refused, Lost}
+use Rattle.ds_rule.specs.declared.answer.Answer.TheVariants.{Failed}
 use Rattle.ds_rule.specs.declared.record.TxnRecord.{TxnRecord}
 use Rattle.ds_rule.specs.Asking.{Made, Gives, Fails, txn_of}
 use Rattle.ds_rule.specs.Deliver.{answer_made, answer_at, stops, Stop, Turned, Ended, stop_answer, served, deliver_answer, deliver_answer_to, holds_item, mismatch_rows, ends, status_stops}
@@ -17,7 +16,7 @@ use Rattle.ds_rule.specs.Journal.{Happening, Runs}
 use Rattle.ds_rule.specs.Pieces.{Each}
 use Rattle.ds_rule.specs.StandsFor.{record_number}
 use Rattle.ds_rule.specs.World.{World, Range, has_id}
-use Rattle.ds_rule.proofs.Truth.{IsRead, all-read}
+use Rattle.ds_law.proofs.Truth.{IsRead, all-read}
 
 -- the record that the piece's transaction has
 abbrev pub status_of : World → Piece → Option Failure

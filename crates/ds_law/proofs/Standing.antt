@@ -1,26 +1,26 @@
 -- What happens beside the sender keeps the world standing for its store.
-use Rattle.std.proofs.Common.{◌≡◌, ℕ, ◌<◌, ◌≤◌, Bool, true, false, cond, ◌+◌, List, [], ◌∷◌, ◌++◌, Option, Some, None, inl, inr, refl, sym, ap, ◌∙◌, subst, fold, arith}
+use Rattle.std.proofs.Common.{◌≡◌, ℕ, ◌<◌, ◌≤◌, Bool, true, false, cond, ◌+◌, List, [], ◌∷◌, ◌++◌, Option, Some, None, refl, sym, ap, ◌∙◌, subst, fold, arith}
 use Rattle.std.specs.Option.{option_or, option_map}
-use Rattle.ds_base.specs.Order.{key_lt, key_le, bound}
-use Rattle.ds_base.specs.Ordered.{key_eq, Ascends}
+use Rattle.ds_base.specs.Order.{key_lt, bound}
+use Rattle.ds_base.specs.Ordered.{key_eq}
 use Rattle.ds_cell.specs.declared.entry.Version.{Version}
 use Rattle.ds_cell.specs.declared.entry.Written.{Written}
 use Rattle.ds_cell.specs.Content.{Content, AllAbove, Rises, stamp_of}
 use Rattle.ds_cell.specs.Seen.{last_of}
 use Rattle.ds_cell.specs.Change.{made, foreign_by, after_foreign}
-use Rattle.ds_cell.specs.Ask.{Cells, key_of, content_at}
+use Rattle.ds_cell.specs.Ask.{content_at}
 use Rattle.ds_cell.specs.Store.{Store, StoreTxn, Mode, Live, FailedSince, Unknown, OverWith, Fate, Pending, Committed, Aborted, put_cell, with_version}
 use Rattle.ds_cell.proofs.LatestFacts.{last_where-cons}
 use Rattle.ds_rule.specs.declared.event.Event.{Event}
-use Rattle.ds_rule.specs.declared.event.Event.TheVariants as Event
 use Rattle.ds_rule.specs.declared.record.TxnRecord.{TxnRecord}
 use Rattle.ds_rule.specs.Clauses.{IsAbove}
 use Rattle.ds_rule.specs.Moves.{moved, with_last, with_last_after, aborted}
 use Rattle.ds_rule.specs.Plain.{after_event, abort_txn, aborted_by}
 use Rattle.ds_rule.specs.StandsFor.{IsAt, AllUpTo, open_stamp, IsIntentOf, HasRecord, HasRecordOf, record_for, record_number, StandsFor}
-use Rattle.ds_rule.specs.World.{World, Range, contents, cell_of, Tiles, holds_key, replaced}
+use Rattle.ds_rule.specs.World.{World, contents, cell_of, holds_key, replaced}
+use Rattle.ds_rule.proofs.Lasts.{none-last, some-last}
 use Rattle.ds_rule.proofs.Puts.{contents-put, put-at}
-use Rattle.ds_rule.proofs.Routes.{contents-ascend}
+use Rattle.ds_rule.proofs.Routes.{contents-ascend, least}
 use Rattle.ds_cell.specs.StoreProofs.{ascends-insert}
 use Rattle.ds_rule.proofs.Tiling.{tiles-put}
 
@@ -31,18 +31,6 @@ fold-more vs (w ∷ ws) v = fold-more (made vs w) ws v
 above-more : (n : ℕ) (vs : List Version) (v : Version) → AllAbove stamp_of n vs → n < stamp_of v → AllAbove stamp_of n (vs ++ v ∷ [])
 above-more n [] v all h = (h, tt)
 above-more n (w ∷ ws) v all h = (all.0, above-more n ws v all.1 h)
-
-last-some : {X : Type 0} (o : Option X) (x : X) → option_or o (Some x) ≡ None → ⊥
-last-some None x h = cc
-last-some (Some y) x h = cc
-
-pub none-last : {X : Type 0} (xs : List X) → last_of xs ≡ None → xs ≡ []
-none-last [] h = refl
-none-last (x ∷ xs) h = absurd (last-some (last_of xs) x (sym (last_where-cons (λ _. true) x xs) ∙ h))
-
-some-last : {X : Type 0} (xs : List X) (x : X) → last_of xs ≡ Some x → xs ≡ [] → ⊥
-some-last [] x h e = cc
-some-last (y ∷ ys) x h e = cc
 
 -- a foreign write joins the versions of the store at once; in the world it may wait
 foreign-at : (stamp : ℕ) (o : Option Written) (v : Version) (c d : Content) → last_of c.history ≡ o → stamp < v.stamp.0 → IsAt stamp c d → IsAt stamp (foreign_by o v c) (with_version v d)
@@ -80,10 +68,6 @@ intent-by (Some t) (Some w) v c h = h
 intent-put : (o : Option StoreTxn) (v : Version) (t : Bool) (c c' : Content) → IsIntentOf o c → IsIntentOf o c' → IsIntentOf o (cond t (after_foreign v c) c')
 intent-put o v true c c' h h' = intent-by o (last_of c.history) v c h
 intent-put o v false c c' h h' = h'
-
-pub least : (k : List ℕ) → key_le [] k ≡ true
-least [] = refl
-least (x ∷ xs) = refl
 
 -- the world after one key of it was written by another client, beside the store with that version
 pub stands-write : (w : World) (p : Store) (k : List ℕ) (v : Version) → key_lt k bound ≡ true → open_stamp p.txn < v.stamp.0 → StandsFor w p → StandsFor (record w { ranges = replaced (holds_key k) (λ r. record r { cells = put_cell k (after_foreign v) r.cells }) w.ranges; count = w.count + 1 }) (record p { cells = put_cell k (with_version v) p.cells })

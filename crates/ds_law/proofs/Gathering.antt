@@ -1,24 +1,22 @@
 -- Pieces of one request after another: what is gathered of them.
-use Rattle.std.proofs.Common.{◌≡◌, ℕ, ◌≤◌, ◌<◌, ◌⊎◌, Bool, true, false, cond, ◌&&◌, ◌==◌, List, [], ◌∷◌, ◌++◌, filter, Option, Some, None, inl, inr, refl, sym, ap, ◌∙◌, subst, append_assoc, eq-eqb, ne_eqb, arith}
+use Rattle.std.proofs.Common.{◌≡◌, ℕ, ◌<◌, Bool, true, false, cond, List, [], ◌∷◌, ◌++◌, Option, Some, None, refl, sym, ap, ◌∙◌, subst, append_assoc, eq-eqb, ne_eqb, arith}
 use Rattle.ds_base.proofs.SmallFacts.{append_nil}
-use Rattle.ds_base.specs.Order.{key_lt, key_le, after}
+use Rattle.ds_base.specs.Order.{key_lt}
 use Rattle.ds_base.proofs.OrderedFacts.{not_lt_of_le, le_of_lt}
 use Rattle.ds_kind.specs.Reach.{Reach, At, Over}
 use Rattle.ds_kind.specs.Request.{cut_to, reach_of, span_of}
 use Rattle.ds_kind.specs.declared.batch.Item.{Item}
 use Rattle.ds_kind.specs.declared.reply.Body.{Body}
-use Rattle.ds_kind.specs.declared.reply.Body.TheVariants as Body
 use Rattle.ds_kind.specs.declared.reply.Reply.{Reply}
 use Rattle.ds_kind.specs.declared.reply.Row.{Row}
 use Rattle.ds_kind.specs.declared.request.Request.{Request}
 use Rattle.ds_kind.specs.declared.request.Request.TheVariants.{Get, Scan, ReverseScan, Put, ConditionalPut, InitPut, Increment, Delete, DeleteRange, EndTxn, QueryIntent, ResolveIntent, ResolveIntentRange, AdminSplit, AdminTransferLease}
-use Rattle.ds_kind.specs.Bodies.{goes_down, join_bodies, join_rows, join_keys}
+use Rattle.ds_kind.specs.Bodies.{goes_down, join_bodies}
 use Rattle.ds_cell.specs.Replies.{Bits, body_of}
 use Rattle.ds_rule.specs.Gathered.{begins_at, put_by_start, by_start, is_at, at_position, IsBody, Joins, IsGathered, Gathered}
 use Rattle.ds_cell.specs.BodyProofs.{bodies_join}
 use Rattle.ds_rule.specs.Journal.{Accepted}
 use Rattle.ds_rule.specs.Pieces.{Each}
-use Rattle.ds_rule.proofs.Joining.{joins-le}
 use Rattle.ds_rule.proofs.Routes.{le_itself}
 
 -- joining is the same whichever two are joined first

@@ -1,5 +1,5 @@
 -- The replies of a piece that was served.
-use Rattle.std.proofs.Common.{◌≡◌, ℕ, List, [], ◌∷◌, ◌++◌, refl, sym, ap, ◌∙◌, subst}
+use Rattle.std.proofs.Common.{◌≡◌, ℕ, List, [], ◌∷◌, refl, sym, ap, ◌∙◌}
 use Rattle.ds_kind.specs.declared.batch.Head.{Head}
 use Rattle.ds_kind.specs.declared.batch.Item.{Item}
 use Rattle.ds_kind.specs.declared.batch.Piece.{Piece}
@@ -16,7 +16,7 @@ use Rattle.ds_rule.specs.Deliver.{deliver_answer}
 use Rattle.ds_rule.specs.Gathered.{IsBody}
 use Rattle.ds_rule.specs.Journal.{Runs}
 use Rattle.ds_rule.specs.World.{World}
-use Rattle.ds_rule.proofs.Service.{Service, service}
+use Rattle.ds_rule.proofs.Service.{service}
 
 -- the first reply is of its request's kind, and there is one
 

@@ -1,41 +1,26 @@
 -- What the pieces of a batch that only reads are answered: what the store would answer.
-use Rattle.std.proofs.Common.{◌≡◌, ℕ, ◌≤◌, Bool, true, false, cond, ◌&&◌, ◌==◌, List, [], ◌∷◌, ◌++◌, map, Option, Some, None, inl, inr, refl, sym, ap, ◌∙◌, subst, arith}
-use Rattle.std.specs.List.{find, list_all}
-use Rattle.ds_base.specs.Order.{key_lt, key_le}
-use Rattle.ds_base.specs.Ordered.{Ascends, between}
+use Rattle.std.proofs.Common.{◌≡◌, ℕ, Bool, true, false, cond, List, [], ◌∷◌, map, Option, Some, None, inl, inr, refl, sym, ap, ◌∙◌, subst}
+use Rattle.std.specs.List.{find}
 use Rattle.ds_base.specs.declared.value.TxnNo.{TxnNo}
-use Rattle.ds_base.proofs.SmallFacts.{and_first, and_second}
-use Rattle.ds_desc.specs.declared.meta.Looked.TheVariants as Looked
 use Rattle.ds_kind.specs.Asks.{is_get_or_scan}
-use Rattle.ds_kind.specs.Reach.{extent_of}
-use Rattle.ds_kind.specs.Request.{cut_to, reach_of, span_of}
+use Rattle.ds_kind.specs.Request.{cut_to}
 use Rattle.ds_kind.specs.declared.batch.Head.{Head}
 use Rattle.ds_kind.specs.declared.batch.Item.{Item}
 use Rattle.ds_kind.specs.declared.batch.Piece.{Piece}
 use Rattle.ds_kind.specs.declared.reply.Reply.{Reply}
 use Rattle.ds_kind.specs.declared.request.Request.{Request}
 use Rattle.ds_kind.specs.declared.request.Request.TheVariants.{Get, Scan, ReverseScan, Put, ConditionalPut, InitPut, Increment, Delete, DeleteRange, EndTxn, QueryIntent, ResolveIntent, ResolveIntentRange, AdminSplit, AdminTransferLease}
-use Rattle.ds_cell.specs.Ask.{Cells, key_of, content_at, Asked, Gave}
+use Rattle.ds_cell.specs.Ask.{Cells, content_at}
 use Rattle.ds_cell.specs.Content.{AllAbove, Rises}
 use Rattle.ds_cell.specs.Replies.{body_of}
-use Rattle.ds_cell.specs.Requests.{ask_request}
-use Rattle.ds_cell.specs.Seen.{seen}
-use Rattle.ds_cell.specs.Store.{Store, StoreTxn, WriteAt}
-use Rattle.ds_rule.specs.declared.answer.Answer.TheVariants.{Done, Failed, Refused, Lost}
-use Rattle.ds_rule.specs.declared.journal.JournalStep.{JournalStep}
-use Rattle.ds_rule.specs.declared.journal.JournalStep.TheVariants.{Look, Send}
-use Rattle.ds_rule.specs.declared.event.Event.{Event}
-use Rattle.ds_rule.specs.Asking.{Asking, Made, Gives, Fails, ask_all, ask_item, made_by, and_then, and_before, at_of, txn_of, finished, committed_by}
-use Rattle.ds_rule.specs.Deliver.{holds_item, Stop, stops, served, deliver_answer, deliver_world, deliver_world_to, world_at, world_made, with_cells}
-use Rattle.ds_rule.specs.Journal.{Happening, Moved, Did, Does, Runs, Accepted, accepted, accepted_by, pairs}
-use Rattle.ds_rule.specs.Path.{IsHigh, IsOf, IsStepOf}
-use Rattle.ds_rule.specs.Pieces.{Each, IsOneOf, IsCut, PieceOf}
-use Rattle.ds_rule.specs.Plain.{after_event}
-use Rattle.ds_rule.specs.StandsFor.{StandsFor, AllUpTo, record_number, IsAt, IsIntentOf, HasRecordOf, open_stamp, IsBefore}
-use Rattle.ds_rule.specs.World.{World, Range, start_of, end_of, contents, cell_of, Tiles, has_id, replaced}
-use Rattle.ds_rule.proofs.Reading.{reads-give, read_bits, same-read, same-places, shown_by}
-use Rattle.ds_rule.proofs.Routes.{range-between}
-use Rattle.ds_rule.proofs.Service.{service, held}
+use Rattle.ds_cell.specs.Store.{Store}
+use Rattle.ds_rule.specs.Asking.{Gives, ask_all, ask_item, made_by, and_then, and_before, at_of, committed_by}
+use Rattle.ds_rule.specs.Deliver.{Stop, stops, served, deliver_world, deliver_world_to, world_at, world_made, with_cells}
+use Rattle.ds_rule.specs.Journal.{Accepted, pairs}
+use Rattle.ds_rule.specs.Pieces.{Each, IsOneOf, IsCut}
+use Rattle.ds_rule.specs.StandsFor.{StandsFor, AllUpTo, record_number, IsAt, IsIntentOf, HasRecordOf, open_stamp}
+use Rattle.ds_rule.specs.World.{World, Range, contents, Tiles, has_id, replaced}
+use Rattle.ds_law.proofs.Reading.{reads-give, read_bits}
 
 -- every request only reads
 abbrev pub IsRead : Item → Type 0

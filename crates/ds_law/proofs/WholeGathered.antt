@@ -30,10 +30,10 @@ use Rattle.ds_rule.specs.Gathered.{at_position, by_start, IsBody, Joins, IsGathe
 use Rattle.ds_rule.specs.Journal.{Happening, Moved, Did, Runs, Accepted, accepted, pairs}
 use Rattle.ds_rule.specs.Path.{Path}
 use Rattle.ds_rule.specs.Pieces.{Each, position_of}
-use Rattle.ds_rule.proofs.Failing.{runs-cut}
-use Rattle.ds_rule.proofs.Gathering.{IsBelowPosition, at-append, at-none, join-nothing}
+use Rattle.ds_law.proofs.Failing.{runs-cut}
+use Rattle.ds_law.proofs.Gathering.{IsBelowPosition, at-append, at-none, join-nothing}
 use Rattle.ds_rule.proofs.Service.{service}
-use Rattle.ds_rule.proofs.Trips.{accepted-append}
+use Rattle.ds_law.proofs.Trips.{accepted-append}
 
 -- one reply for each request, of its kind and whole
 
