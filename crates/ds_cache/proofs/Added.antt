@@ -5,10 +5,10 @@ use Rattle.std.specs.List.{IsDistinct}
 use Rattle.std.specs.Map.{keys_of}
 use Rattle.std.proofs.lemmas.Map.Views.{exact_unsigned_eq}
 use Rattle.ds_base.specs.Order.{key_lt, Extent}
-use Rattle.ds_base.proofs.SmallFacts.{some_none, some_same}
+use Rattle.ds_base.proofs.SmallFacts.{none_some, some_none, some_same}
 use Rattle.ds_desc.specs.declared.desc.Info.{Info}
 use Rattle.ds_desc.specs.Descs.{overlap}
-use Rattle.ds_cache.specs.Entries.{Entry, cache, at_serial, without, IsSound}
+use Rattle.ds_cache.specs.Entries.{Entry, cache, at_serial, without, IsSound, IsIndex}
 use Rattle.ds_cache.specs.Insert.{clear_of}
 use Rattle.ds_cache.proofs.Serials.{at_head, at_tail, none_later, distinct_tail, distinct_more}
 
@@ -18,6 +18,24 @@ no_entries = []
 pub none_distinct : IsDistinct nat_eq (keys_of no_entries)
 unfolding IsDistinct
 none_distinct = tt
+
+-- ---- nothing stands yet
+
+pub sound_empty : (n : ℕ) (es : List Entry) → es ≡ [] → 1 ≤ n → IsSound (cache es n 0)
+sound_empty n [] h some = record {
+  apart = λ s t a b p q o. none_some a p;
+  spans = λ s i p. none_some i p;
+  serials = λ s i p. none_some i p;
+  distinct = none_distinct;
+  fits = omega arith;
+  some = some;
+}
+sound_empty n (e ∷ es) h some = cc
+
+pub index_empty : (es : List Entry) (m : List (List ℕ × ℕ)) → es ≡ [] → m ≡ [] → IsIndex es m
+index_empty [] [] h g = record { only = λ k s p. none_some s p; each = λ s i p. none_some i p }
+index_empty [] (x ∷ xs) h g = cc
+index_empty (e ∷ es) m h g = cc
 
 and_flips : (a b : Bool) → a && b ≡ b && a
 and_flips true true = refl

@@ -4,10 +4,11 @@ use Rattle.ds_base.specs.declared.value.Dir.TheVariants.{Forward, Reverse}
 use Rattle.ds_desc.specs.declared.desc.Info.{Info}
 use Rattle.ds_cache.specs.declared.inserted.Inserted.TheVariants.{Older, Renewed, Added, Spent}
 use Rattle.ds_desc.specs.Descs.{overlap}
-use Rattle.ds_base.proofs.SmallFacts.{none_some}
+use Rattle.ds_base.proofs.SmallFacts.{none_some, some_same}
 use Rattle.ds_cache.specs.Entries.{Entry, Cache, cache, found, fronted, without, NoOverlap, IsSound, IsIndex}
 use Rattle.ds_cache.specs.Insert.{put_in, with_lease, leased, is_later_than, PutFrom}
-use Rattle.ds_cache.proofs.Added.{none_distinct}
+use Rattle.ds_cache.specs.Uses.{Fall, used_later}
+use Rattle.ds_cache.proofs.Added.{sound_empty}
 
 -- the range from one byte up to another, of this generation, with this number of its lease
 abbrev range : ℕ → ℕ → ℕ → ℕ → Info
@@ -95,14 +96,7 @@ the_serial_0_takes_out_none = refl
 -- ---- what every cache keeps
 
 an_empty_cache_is_sound : IsSound (cache [] 1 0)
-an_empty_cache_is_sound = record {
-  apart = λ s t a b p q o. none_some a p;
-  spans = λ s i p. none_some i p;
-  serials = λ s i p. none_some i p;
-  distinct = none_distinct;
-  fits = omega arith;
-  some = omega arith;
-}
+an_empty_cache_is_sound = sound_empty 1 [] refl (omega arith)
 
 abbrev overlapping : List Entry
 overlapping = (2, range 98 100 1 1) ∷ (1, range 97 99 1 1) ∷ []
@@ -121,6 +115,31 @@ an_index_without_a_start x = none_some 1 (x.each 1 (range 97 99 1 1) refl)
 
 an_index_with_a_start_that_is_gone : IsIndex [] ((97 ∷ [], 1) ∷ []) → ⊥
 an_index_with_a_start_that_is_gone x = let on = x.only (97 ∷ []) 1 refl in none_some on.0 on.1
+
+-- ---- when each was last used
+
+-- the entry of serial 2 was used last
+abbrev numbers : List (ℕ × ℕ)
+numbers = (1, 4) ∷ (2, 7) ∷ []
+
+the_uses_fall : Fall 8 numbers two.entries
+the_uses_fall = (7, refl, omega arith, (4, refl, omega arith, tt))
+
+in_another_order_they_rise : Fall 8 numbers (fronted (Some (1, range 97 99 1 1)) two.entries) → ⊥
+in_another_order_they_rise h =
+    let u : 4 ≡ h.0 = some_same 4 h.0 h.1 in
+    let v : 7 ≡ h.3.0 = some_same 7 h.3.0 h.3.1 in
+    let low = h.3.2 in
+    omega (arith, u, v, low)
+
+an_entry_has_a_number : Fall 8 ((2, 7) ∷ []) two.entries → ⊥
+an_entry_has_a_number h = none_some h.3.0 h.3.1
+
+the_one_used_last_stays : used_later (Some (7, 5)) (4, 9) ≡ (7, 5)
+the_one_used_last_stays = refl
+
+the_one_used_last_comes : used_later (Some (4, 9)) (7, 5) ≡ (7, 5)
+the_one_used_last_comes = refl
 
 -- ---- rows, after want of memory
 

@@ -4,6 +4,7 @@ pub mod LawFacts
 pub mod Leases
 pub mod Outdates
 pub mod Placed
+pub mod Ranked
 pub mod Rows
 pub mod Serials
 pub mod Sound

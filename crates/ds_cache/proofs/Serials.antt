@@ -112,7 +112,7 @@ at_front s q i es d h =
       | false ↦ λ t. rw t (at_without s q es d ∙ ap (λ b. cond b None (at_serial q es)) (nat_eq_equiv.symm s q ∙ t))
     ]) refl
 
-none_without : (s : ℕ) (es : List Entry) → IsDistinct nat_eq (keys_of es) → at_serial s (without s es) ≡ None
+pub none_without : (s : ℕ) (es : List Entry) → IsDistinct nat_eq (keys_of es) → at_serial s (without s es) ≡ None
 none_without s es d = at_without s s es d ∙ ap (λ b. cond b None (at_serial s es)) (nat_eq_equiv.refl s)
 
 all_by : (k : ℕ) (es : List Entry) → at_serial k es ≡ None → AllByRecursion (λ y. nat_eq k y ≡ false) (keys_of es)

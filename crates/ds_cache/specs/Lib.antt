@@ -4,3 +4,4 @@ pub mod Laws
 pub mod Nearest
 pub mod Outdating
 pub mod Placing
+pub mod Uses

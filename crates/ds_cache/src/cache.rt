@@ -11,6 +11,7 @@ use crate::outdated::newer_generation;
 use crate::place::{clear_beside, place, trim};
 use crate::standing::{lease_entry, renew, standing_at};
 use crate::taken::take_out;
+use crate::uses::Uses;
 use ds_base::{Copies, Dir, Key};
 use ds_desc::{Info, Infos, Lease};
 use lru::LruCache;
@@ -25,6 +26,7 @@ use std::num::NonZeroUsize;
 pub struct RangeCache {
     recency: LruCache<u64, Info>,
     index: BTreeMap<Key, u64>,
+    uses: Uses,
     capacity: u32,
     given: u64,
 }
@@ -32,12 +34,13 @@ pub struct RangeCache {
 impl Model for RangeCache {
     ghost use Rattle.std.specs.Prelude.{◌≡◌, ◌+◌};
     ghost use Rattle.ds_cache.specs.Entries.{Cache, cache, IsIndex, IsSound};
+    ghost use Rattle.ds_cache.specs.Uses.{AreRanked};
 
     ghost Value = { Cache };
 
     ghost view = { λ c. cache c.recency.entries c.capacity c.given };
 
-    ghost invariant = { λ c. IsSound (cache c.recency.entries c.capacity c.given) × IsIndex c.recency.entries c.index.entries × (c.recency.cap ≡ c.capacity + 1) };
+    ghost invariant = { λ c. IsSound (cache c.recency.entries c.capacity c.given) × IsIndex c.recency.entries c.index.entries × (c.recency.cap ≡ c.capacity + 1) × AreRanked c.uses.next c.uses.last.entries c.recency.entries };
 }
 
 /// The serial of an entry that a call found or made. It is moved, and never copied.
@@ -67,6 +70,7 @@ impl RangeCache {
         Ok(RangeCache {
             recency: LruCache::sparse(alloc, places)?,
             index: BTreeMap::new(alloc),
+            uses: Uses::new(alloc),
             capacity: cap,
             given: 0,
         })
@@ -97,6 +101,7 @@ impl RangeCache {
             None => return None,
         }
         self.recency.promote(&serial);
+        self.uses.touch(serial);
         Some(Token { serial })
     }
 
@@ -112,7 +117,12 @@ impl RangeCache {
         ensures stood { result ≡ is_some (at_serial token self.old.entries) }
         ensures cache { self.new ≡ cache (without token self.old.entries) self.old.capacity self.old.given }
     {
-        take_out(&mut self.recency, &mut self.index, token.serial)
+        take_out(
+            &mut self.recency,
+            &mut self.index,
+            &mut self.uses,
+            token.serial,
+        )
     }
 
     /// Adds an entry in front. What overlaps it goes, and the last entry too where the capacity
@@ -124,9 +134,21 @@ impl RangeCache {
         ensures err { OnErr result (self.new ≡ self.old) }
     {
         let serial = self.given + 1;
-        place(alloc, &mut self.recency, &mut self.index, serial, info)?;
-        clear_beside(&mut self.recency, &mut self.index, serial);
-        trim(&mut self.recency, &mut self.index, self.capacity);
+        place(
+            alloc,
+            &mut self.recency,
+            &mut self.index,
+            &mut self.uses,
+            serial,
+            info,
+        )?;
+        clear_beside(&mut self.recency, &mut self.index, &mut self.uses, serial);
+        trim(
+            &mut self.recency,
+            &mut self.index,
+            &mut self.uses,
+            self.capacity,
+        );
         self.given = serial;
         Ok(Token { serial })
     }
@@ -135,19 +157,19 @@ impl RangeCache {
     /// where the descriptor would be [`Added`](Inserted::Added): the other answers take no memory.
     ///
     /// It costs a number of searches in the index that grows by one for each entry that overlaps the
-    /// descriptor, each logarithmic in the number of entries, and one more for each that goes. Where
-    /// two or more entries outdate the descriptor, it also goes through the entries in the order of
-    /// their use, up to the first of those: at worst through all.
+    /// descriptor, each logarithmic in the number of entries, and one more for each that goes. Only
+    /// after 2^64 - 1 uses of entries are their numbers at an end, and the entries are gone through.
     pub fn insert(&mut self, alloc: Global, info: Info) -> Result<(Inserted, Token), AllocError>
         ensures ok { IfOk result (λ r. record { inserted = r.0; token = r.1; after = self.new } ≡ put_in info self.old) }
         ensures err { OnErr result (self.new ≡ self.old) }
         ensures wants { OnErr result ((put_in info self.old).inserted ≡ Added) }
     {
-        if let Some(by) = newer_generation(&self.recency, &self.index, &info) {
+        if let Some(by) = newer_generation(&self.recency, &self.index, &self.uses, &info) {
             return Ok((Inserted::Older { by }, Token { serial: 0 }));
         }
         if let Some(serial) = standing_at(&self.recency, &self.index, &info) {
             renew(&mut self.recency, serial, info.lease);
+            self.uses.touch(serial);
             return Ok((Inserted::Renewed, Token { serial }));
         }
         if self.given == u64::MAX {

@@ -15,6 +15,7 @@ mod outdated;
 mod place;
 mod standing;
 mod taken;
+mod uses;
 
 pub use cache::{RangeCache, Token};
 pub use inserted::Inserted;

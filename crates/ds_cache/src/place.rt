@@ -4,6 +4,7 @@ ghost use Rattle.std.specs.List.{IsDistinct};
 ghost use Rattle.std.specs.Map.{keys_of, lookup};
 ghost use Rattle.ds_cache.specs.Entries.{at_serial, without, IsIndex};
 ghost use Rattle.ds_cache.specs.Placing.{OthersApart, AreSpans, IsBeside, IsAlone, spared, IsPlaced, Reindexed};
+ghost use Rattle.ds_cache.specs.Uses.{AreRanked};
 ghost use Rattle.std.specs.BTreeMap.{is_at};
 ghost use Rattle.ds_base.specs.Order.{key_cmp};
 ghost use Rattle.ds_desc.specs.declared.desc.Info.{Info};
@@ -11,6 +12,7 @@ ghost use Rattle.ds_desc.specs.declared.desc.Info.{Info};
 use crate::compare::{end_of, start_of};
 use crate::nearest::last_before;
 use crate::taken::take_out;
+use crate::uses::Uses;
 use ds_base::{Copies, Dir, Key};
 use ds_desc::Info;
 use lru::LruCache;
@@ -52,29 +54,39 @@ fn beside(recency: &LruCache<u64, Info>, index: &BTreeMap<Key, u64>, serial: u64
 pub(crate) fn clear_beside(
     recency: &mut LruCache<u64, Info>,
     index: &mut BTreeMap<Key, u64>,
+    uses: &mut Uses,
     serial: u64,
 )
     requires distinct { IsDistinct nat_eq (keys_of recency.old.entries) }
     requires index { IsIndex recency.old.entries index.old.entries }
     requires apart { OthersApart serial recency.old.entries }
     requires spans { AreSpans recency.old.entries }
+    requires ranked { AreRanked uses.old.next uses.old.last.entries recency.old.entries }
     ensures entries { (i : Info) → at_serial serial recency.old.entries ≡ Some i → recency.new.entries ≡ spared serial i recency.old.entries }
     ensures capacity { recency.new.cap ≡ recency.old.cap }
     ensures index { IsIndex recency.new.entries index.new.entries }
+    ensures ranked { AreRanked uses.new.next uses.new.last.entries recency.new.entries }
 {
     'others: while let Some(other) = beside(recency, index, serial) {
-        take_out(recency, index, other);
+        take_out(recency, index, uses, other);
     }
 }
 
 /// Takes the last entry out where there is one more than the capacity.
-pub(crate) fn trim(recency: &mut LruCache<u64, Info>, index: &mut BTreeMap<Key, u64>, capacity: u32)
+pub(crate) fn trim(
+    recency: &mut LruCache<u64, Info>,
+    index: &mut BTreeMap<Key, u64>,
+    uses: &mut Uses,
+    capacity: u32,
+)
     requires distinct { IsDistinct nat_eq (keys_of recency.old.entries) }
     requires index { IsIndex recency.old.entries index.old.entries }
     requires room { length recency.old.entries ≤ capacity + 1 }
+    requires ranked { AreRanked uses.old.next uses.old.last.entries recency.old.entries }
     ensures entries { recency.new.entries ≡ take capacity recency.old.entries }
     ensures capacity { recency.new.cap ≡ recency.old.cap }
     ensures index { IsIndex recency.new.entries index.new.entries }
+    ensures ranked { AreRanked uses.new.next uses.new.last.entries recency.new.entries }
 {
     if recency.len() <= capacity as usize {
         return;
@@ -83,7 +95,7 @@ pub(crate) fn trim(recency: &mut LruCache<u64, Info>, index: &mut BTreeMap<Key, 
         Some((last, _)) => *last,
         None => return,
     };
-    take_out(recency, index, last);
+    take_out(recency, index, uses, last);
 }
 
 /// Puts the start into the index, and gives the serial that stood under it.
@@ -120,11 +132,14 @@ fn take_entry(recency: &mut LruCache<u64, Info>, serial: u64)
     recency.pop(&serial);
 }
 
-/// Puts the entry in front, and its start into the index. Want of memory leaves both as they were.
+/// Puts the entry in front, its start into the index, and the number of its first use. Want of memory
+/// leaves the entries and the index as they were; a number may be left for the serial, which isn't
+/// given yet, and the next entry takes it over.
 pub(crate) fn place(
     alloc: Global,
     recency: &mut LruCache<u64, Info>,
     index: &mut BTreeMap<Key, u64>,
+    uses: &mut Uses,
     serial: u64,
     info: Info,
 ) -> Result<(), AllocError>
@@ -133,18 +148,22 @@ pub(crate) fn place(
     requires spans { AreSpans recency.old.entries }
     requires fresh { at_serial serial recency.old.entries ≡ None }
     requires room { length recency.old.entries < recency.old.cap }
+    requires ranked { AreRanked uses.old.next uses.old.last.entries recency.old.entries }
     ensures ok { OnOk result (IsPlaced serial info recency.old.entries recency.new.entries) }
     ensures index { OnOk result (IsIndex recency.new.entries index.new.entries) }
     ensures capacity { recency.new.cap ≡ recency.old.cap }
     ensures recency_kept { OnErr result (recency.new.entries ≡ recency.old.entries) }
     ensures index_kept { OnErr result (index.new.entries ≡ index.old.entries) }
+    ensures ranked { AreRanked uses.new.next uses.new.last.entries recency.new.entries }
 {
     let _above = end_of(&info);
     let start = start_of(&info).copy(alloc)?;
+    uses.begin(serial)?;
     put_entry(recency, serial, info)?;
     match put_start(index, start, serial) {
         Ok(Some(old)) => {
             take_entry(recency, old);
+            uses.end(old);
             return Ok(());
         }
         Ok(None) => return Ok(()),
