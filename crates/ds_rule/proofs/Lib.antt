@@ -2,6 +2,7 @@ pub mod Delivered
 pub mod Eachs
 pub mod Examples
 pub mod ExamplesOfJournals
+pub mod ExamplesOfLimits
 pub mod ExamplesOfPaths
 pub mod ExamplesOfRecords
 pub mod ExamplesOfShifts
