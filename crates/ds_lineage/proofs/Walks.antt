@@ -64,7 +64,7 @@ walk-end ds k b steps at all w =
 
 -- ---- a node more
 
-greatest-more : (ds : List RangeDesc) (e : RangeDesc) → greatest_id (ds ++ e ∷ []) ≡ max (greatest_id ds) e.id
+pub greatest-more : (ds : List RangeDesc) (e : RangeDesc) → greatest_id (ds ++ e ∷ []) ≡ max (greatest_id ds) e.id
 greatest-more [] e = omega arith
 greatest-more (d ∷ ds) e = omega (arith, greatest-more ds e)
 
