@@ -5,6 +5,7 @@ mod ask;
 mod change;
 mod join;
 mod keep;
+mod lease;
 mod serve;
 mod settle;
 mod shape;

@@ -57,7 +57,7 @@ and_false : (t : Bool) → (t && false) ≡ false
 and_false true = refl
 and_false false = refl
 
-ends-low : (s : List ℕ) (rs : List Range) → Tiles s rs → key_le s bound ≡ true
+pub ends-low : (s : List ℕ) (rs : List Range) → Tiles s rs → key_le s bound ≡ true
 ends-low s [] t = subst (λ z. key_le s z ≡ true) t (le_itself s)
 ends-low s (r ∷ rs) t = le_trans s (end_of r) bound (le_of_lt s (end_of r) t.0.some) (ends-low (end_of r) rs t.1)
 
