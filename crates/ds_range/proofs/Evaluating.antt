@@ -1,10 +1,13 @@
 -- Items served one after another, by the records and with what is left of a limit, and the contents after them.
-use Rattle.std.proofs.Common.{◌≡◌, ℕ, ◌<◌, ◌+◌, List, [], ◌∷◌, ◌++◌, map, drop, length, get_or, Option, None, sym, ap, ◌∙◌, subst, append_assoc}
+use Rattle.std.proofs.Common.{◌≡◌, ℕ, true, ◌<◌, ◌+◌, List, [], ◌∷◌, ◌++◌, map, drop, length, get_or, Option, None, sym, ap, ◌∙◌, subst, append_assoc}
+use Rattle.std.specs.List.{list_all}
 use Rattle.ds_base.specs.Order.{Extent}
 use Rattle.ds_base.specs.Ordered.{Ascends}
 use Rattle.ds_base.specs.declared.value.Value.{Value}
 use Rattle.ds_base.proofs.SmallFacts.{append_nil}
+use Rattle.ds_kind.specs.Asks.{has_proper_span}
 use Rattle.ds_kind.specs.Left.{left_after}
+use Rattle.ds_kind.specs.Parts.{requests_of}
 use Rattle.ds_kind.specs.declared.batch.Head.{Head}
 use Rattle.ds_kind.specs.declared.batch.Item.{Item}
 use Rattle.ds_kind.specs.declared.reply.Body.{Body}
@@ -22,6 +25,7 @@ use Rattle.ds_rule.specs.Asking.{at_of, failure_of, Made, Gives, Fails, and_befo
 use Rattle.ds_rule.specs.Deliver.{answer_made}
 use Rattle.ds_rule.specs.Endings.{all_ended, records_made}
 use Rattle.ds_rule.specs.Limited.{with_rest, ask_left}
+use Rattle.ds_rule.specs.Pieces.{Each}
 use Rattle.ds_rule.specs.Serve.{and_left, resolved_left, serve}
 use Rattle.ds_range.specs.declared.piece.One.{One as Became}
 use Rattle.ds_range.specs.declared.piece.One.TheVariants as One
@@ -30,8 +34,8 @@ use Rattle.ds_range.specs.Asks.{wrote_each}
 use Rattle.ds_range.specs.Keeps.{Kept, restored}
 use Rattle.ds_range.specs.Evaluates.{MadeOne, ServedItem, ServedNext, ServedItems}
 use Rattle.ds_range.specs.Serves.{key_of_write, finished_at, after_made, Tries}
-use Rattle.ds_serve.specs.Shares.{CanResume}
-use Rattle.ds_serve.proofs.Rooms.{resume_one, resume_next}
+use Rattle.ds_serve.specs.Shares.{CanResume, HasRoom}
+use Rattle.ds_serve.proofs.Rooms.{RoomAfter, resume_one, resume_next, room_committed, room_served}
 use Rattle.ds_range.proofs.Freedom.{wrote_all}
 use Rattle.ds_range.proofs.Piecing.{under_keys, before_nothing, twice, map_append, dropped, finished_keys}
 
@@ -159,3 +163,11 @@ done_failed rs f h = cc
 pub answered_records : (h : Head) (is : List Item) (m : Made) (rs : List Reply) (ts : List TxnRecord) → Answered.Done rs ≡ answer_made m → all_ended h is rs ts ≡ records_made h is m ts
 answered_records h is (Fails f) rs ts said = done_failed rs f said
 answered_records h is (Gives cells ws qs) rs ts said = ap (λ z. all_ended h is z ts) (done_same rs qs said)
+
+-- the keys that stand after a piece have room for one more
+pub room_applied : (ts : List TxnRecord) (h : Head) (left : Option ℕ) (is : List Item) (old now : Cells) → now ≡ after_made h (serve ts h left is old) old → list_all has_proper_span (requests_of is) ≡ true → Each HasRoom old → Each HasRoom now
+room_applied ts h left is old now made proper all = subst (Each HasRoom) (sym made) (by (serve ts h left is old) (room_served ts h left is old proper all))
+  where
+    by : (m : Made) → RoomAfter m → Each HasRoom (after_made h m old)
+    by (Fails f) after = all
+    by (Gives cells ws rs) after = room_committed h h.txn ws cells after.1 after.0

@@ -1,6 +1,9 @@
 //! What a range answers a piece, and does, by the records of transactions and with what is left of the
 //! piece's limit.
-ghost use Rattle.std.specs.Prelude.{◌≡◌, ◌∷◌, [], ◌++◌, map, IfOk, OnOk, OnErr};
+ghost use Rattle.std.specs.Prelude.{◌≡◌, ◌∷◌, [], ◌++◌, map, true, IfOk, OnOk, OnErr};
+ghost use Rattle.std.specs.List.{list_all};
+ghost use Rattle.ds_kind.specs.Asks.{has_proper_span};
+ghost use Rattle.ds_kind.specs.Parts.{requests_of};
 ghost use Rattle.ds_cell.specs.Replies.{body_of};
 ghost use Rattle.ds_cell.specs.Store.{put_cell};
 ghost use Rattle.ds_rule.specs.declared.answer.Answer.TheVariants.{Done};
@@ -8,9 +11,10 @@ ghost use Rattle.ds_rule.specs.Asking.{ask_item};
 ghost use Rattle.ds_rule.specs.Deliver.{answer_made};
 ghost use Rattle.ds_rule.specs.Endings.{all_ended, records_made};
 ghost use Rattle.ds_rule.specs.Limited.{with_rest};
+ghost use Rattle.ds_rule.specs.Pieces.{Each};
 ghost use Rattle.ds_rule.specs.Serve.{serve};
 ghost use Rattle.ds_serve.specs.Ends.{reopened};
-ghost use Rattle.ds_serve.specs.Shares.{ask_share, CanResume};
+ghost use Rattle.ds_serve.specs.Shares.{ask_share, CanResume, HasRoom};
 ghost use Rattle.ds_range.specs.Asks.{wrote_each, wrote_once};
 ghost use Rattle.ds_range.specs.Covers.{CoversIf};
 ghost use Rattle.ds_range.specs.Evaluates.{answer_to, kept_of, ended_in, MadeOne, ServedItem, ServedNext, ServedItems};
@@ -383,7 +387,9 @@ impl RangeState {
     /// the records as they were.
     ///
     /// Where the piece has a limit, what is left of a span must be a span of keys: each span of an item is
-    /// proper, and each key that stands here has at most 64 bytes and is below the bound.
+    /// proper, and each key that stands here has at most 64 bytes and is below the bound. So it is with the
+    /// keys that stand afterwards then, with a limit or without.
+    #[tactic(auto, using(crate::proofs::Evaluating::room_applied))]
     pub fn apply_by(
         &mut self,
         alloc: Global,
@@ -398,6 +404,7 @@ impl RangeState {
         ensures records_back { IfOk result (λ e. reopened (ended_in e) records.new ≡ records.old) }
         ensures err { OnErr result (self.new ≡ self.old) }
         ensures err_records { OnErr result (records.new ≡ records.old) }
+        ensures room { list_all has_proper_span (requests_of piece.now.items) ≡ true → Each HasRoom (self.old).cells → Each HasRoom (self.new).cells }
     {
         let evaluation = evaluate(alloc, &mut self.cells, records, piece)?;
         let written = self.written.take();
