@@ -6,6 +6,7 @@ use Rattle.std.specs.Ordering.{match_ordering}
 use Rattle.std.specs.declared.cmp.Ordering.TheVariants.{Less, Equal, Greater}
 use Rattle.ds_base.specs.Order.{Extent, key_cmp, holds}
 use Rattle.ds_base.specs.declared.value.Stamp.{Stamp}
+use Rattle.ds_base.specs.declared.value.TxnNo.{TxnNo}
 use Rattle.ds_base.specs.declared.value.Value.{Value}
 use Rattle.ds_base.proofs.SmallFacts.{and_first, and_second}
 use Rattle.ds_kind.specs.Asks.{has_room, has_proper_span, is_proper}
@@ -26,13 +27,14 @@ use Rattle.ds_cell.specs.Change.{settled, wrote}
 use Rattle.ds_cell.specs.Content.{Content}
 use Rattle.ds_cell.specs.Ask.{Asked, Cells, Failed, Gave, ask_each, content_at, one_more, places}
 use Rattle.ds_cell.specs.Requests.{ask_request, deed_of}
-use Rattle.ds_cell.specs.Store.{WriteAt, write_all}
+use Rattle.ds_cell.specs.Store.{WriteAt, settle_all, under_number, write_all}
 use Rattle.ds_rule.specs.declared.record.TxnRecord.{TxnRecord}
-use Rattle.ds_rule.specs.Asking.{Made, Gives, Fails, ask_item, at_of, made_by}
+use Rattle.ds_rule.specs.Asking.{Made, Gives, Fails, and_before, ask_item, at_of, committed_by, made_by}
 use Rattle.ds_rule.specs.Limited.{ask_left, ask_up_to, item_in, last_taken, part_to, rest_after, taken_keys, with_rest}
 use Rattle.ds_rule.specs.Pieces.{Each}
-use Rattle.ds_rule.specs.Serve.{decided, resolved, resolved_for, resolved_left, resolves, settle_as, settle_in}
+use Rattle.ds_rule.specs.Serve.{and_left, decided, resolved, resolved_for, resolved_left, resolves, serve, settle_as, settle_in}
 use Rattle.ds_rule.specs.Records.{record_of}
+use Rattle.ds_rule.proofs.Eachs.{each-append}
 use Rattle.ds_serve.specs.Shares.{CanResume, HasRoom}
 use Rattle.ds_serve.proofs.Limits.{room_between}
 
@@ -101,13 +103,21 @@ room_written : (at : At) (ws : List (List ℕ × Option Value)) (cells : Cells) 
 room_written at [] cells h all = all
 room_written at (w ∷ ws) cells h all = room_written at ws _ h.1 (room_put w.0 (wrote at w.1 (content_at w.0 cells)) cells h.0 all)
 
-abbrev RoomAfter : Made → Type 0
+abbrev pub RoomWrite : WriteAt → Type 0
+RoomWrite w = has_room w.key ≡ true
+
+room_under : (at : At) (ws : List (List ℕ × Option Value)) → Each RoomOf ws → Each RoomWrite (under_number at ws)
+room_under at [] h = tt
+room_under at (w ∷ ws) h = (h.0, room_under at ws h.1)
+
+-- the contents afterwards, and the writes
+abbrev pub RoomAfter : Made → Type 0
 RoomAfter (Fails f) = Unit {0}
-RoomAfter (Gives cells ws rs) = Each HasRoom cells
+RoomAfter (Gives cells ws rs) = Each HasRoom cells × Each RoomWrite ws
 
 room_made : (h : Head) (i : Item) (a : Asked) (cells : Cells) → RoomAsked a → Each HasRoom cells → RoomAfter (made_by h i a cells)
 room_made h i (Failed k f) cells asked all = tt
-room_made h i (Gave bits ws) cells asked all = room_written (at_of h i.seq.0) ws cells asked all
+room_made h i (Gave bits ws) cells asked all = (room_written (at_of h i.seq.0) ws cells asked all, room_under (at_of h i.seq.0) ws asked)
 
 room_item : (h : Head) (i : Item) (cells : Cells) → RoomAt (reach_of i.request) → Each HasRoom cells → RoomAfter (ask_item h i cells)
 room_item h i cells point all =
@@ -125,9 +135,10 @@ room_up_to h (Some k) i cells point all =
     room_rest (rest_after (goes_down i.request) (span_of i.request) k) (ask_item h (item_in x i) cells)
     (room_item h (item_in x i) cells (room_cut x.start x.end i.request point) all)
 
-room_left : (h : Head) (n : ℕ) (i : Item) (cells : Cells) → RoomAt (reach_of i.request) → Each HasRoom cells → RoomAfter (ask_left h (Some n) i cells)
-room_left h zero i cells point all = all
-room_left h (suc n) i cells point all = room_up_to h (last_taken n (taken_keys i.request (at_of h i.seq.0) cells)) i cells point all
+room_left : (h : Head) (left : Option ℕ) (i : Item) (cells : Cells) → RoomAt (reach_of i.request) → Each HasRoom cells → RoomAfter (ask_left h left i cells)
+room_left h None i cells point all = room_item h i cells point all
+room_left h (Some zero) i cells point all = (all, tt)
+room_left h (Some (suc n)) i cells point all = room_up_to h (last_taken n (taken_keys i.request (at_of h i.seq.0) cells)) i cells point all
 
 -- and after what is resolved
 
@@ -165,8 +176,34 @@ resume_one (Some n) i is cells h =
 -- what is left of the next spans can be said after one item too
 pub resume_next : (ts : List TxnRecord) (h : Head) (left : Option ℕ) (i : Item) (is : List Item) (old mid : Cells) (ws : List WriteAt) (rs : List Reply) → CanResume left (i ∷ is) old → ask_left h left i old ≡ Gives mid ws rs → CanResume (left_after left rs) is (resolved_left ts left i.request mid)
 resume_next ts h None i is old mid ws rs can asked = tt
-resume_next ts h (Some n) i is old mid ws rs can asked = (
-  and_second (has_proper_span i.request) (list_all has_proper_span (requests_of is)) can.0,
-  room_resolved ts (Some n) i.request mid
-      (subst RoomAfter asked (room_left h n i old (room_proper (reach_of i.request) (and_first (has_proper_span i.request) (list_all has_proper_span (requests_of is)) can.0)) can.1)),
-)
+resume_next ts h (Some n) i is old mid ws rs can asked =
+    let after : RoomAfter (Gives mid ws rs) = subst RoomAfter asked (room_left h (Some n) i old (room_proper (reach_of i.request) (and_first (has_proper_span i.request) (list_all has_proper_span (requests_of is)) can.0)) can.1) in (
+      and_second (has_proper_span i.request) (list_all has_proper_span (requests_of is)) can.0,
+      room_resolved ts (Some n) i.request mid after.0,
+    )
+
+-- and after all of them
+
+room_before : (ws : List WriteAt) (rs : List Reply) (m : Made) → Each RoomWrite ws → RoomAfter m → RoomAfter (and_before ws rs m)
+room_before ws rs (Fails f) h all = tt
+room_before ws rs (Gives cells more later) h all = (all.0, each-append RoomWrite ws more h all.1)
+
+room_then : (ts : List TxnRecord) (left : Option ℕ) (r : Request) (m : Made) (next : Option ℕ → Cells → Made) → RoomAfter m → ((l : Option ℕ) (now : Cells) → Each HasRoom now → RoomAfter (next l now)) → RoomAfter (and_left ts left r m next)
+room_then ts left r (Fails f) next h more = tt
+room_then ts left r (Gives cells ws rs) next h more =
+    room_before ws rs (next (left_after left rs) (resolved_left ts left r cells)) h.1 (more (left_after left rs) (resolved_left ts left r cells) (room_resolved ts left r cells h.0))
+
+pub room_served : (ts : List TxnRecord) (h : Head) (left : Option ℕ) (is : List Item) (cells : Cells) → list_all has_proper_span (requests_of is) ≡ true → Each HasRoom cells → RoomAfter (serve ts h left is cells)
+room_served ts h left [] cells proper all = (all, tt)
+room_served ts h left (i ∷ is) cells proper all =
+    room_then ts left i.request (ask_left h left i cells) (λ l now. serve ts h l is now)
+    (room_left h left i cells (room_proper (reach_of i.request) (and_first (has_proper_span i.request) (list_all has_proper_span (requests_of is)) proper)) all)
+    (λ l now room. room_served ts h l is now (and_second (has_proper_span i.request) (list_all has_proper_span (requests_of is)) proper) room)
+
+room_all_settled : (txn : ℕ) (commit : Option Stamp) (ws : List WriteAt) (cells : Cells) → Each RoomWrite ws → Each HasRoom cells → Each HasRoom (settle_all txn commit ws cells)
+room_all_settled txn commit [] cells h all = all
+room_all_settled txn commit (w ∷ ws) cells h all = room_all_settled txn commit ws _ h.1 (room_put w.key (settled txn commit (content_at w.key cells)) cells h.0 all)
+
+pub room_committed : (h : Head) (o : Option TxnNo) (ws : List WriteAt) (cells : Cells) → Each RoomWrite ws → Each HasRoom cells → Each HasRoom (committed_by h o ws cells)
+room_committed h None ws cells write all = room_all_settled 0 (Some h.at) ws cells write all
+room_committed h (Some t) ws cells write all = all

@@ -1,6 +1,6 @@
 use Rattle.std.proofs.Common.{◌≡◌, take}
 use Rattle.ds_range.specs.Covers.{settled_among}
-use Rattle.ds_range.proofs.settle.settle_each.Given as goal
+use Rattle.ds_range.proofs.settle.settle_among.Given as goal
 
 -- the keys so far were settled
 abbrev pub invariant-keys : goal.invariant-keys
