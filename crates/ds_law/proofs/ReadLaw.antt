@@ -82,7 +82,7 @@ like-recorded (Some t) (Some u) rs l h = as-known u.mode t u rs (λ k. known-las
 
 pub stands-like : (w : World) (p : Store) (o : Option StoreTxn) → Like p.txn o → StandsFor w p → StandsFor w (record p { txn = o })
 stands-like w p o l st = record {
-  tiled = st.tiled;
+  keeps = st.keeps;
   rising = st.rising;
   same = λ k. subst (λ s. IsAt s (cell_of w k) (content_at k p.cells)) (like-stamp p.txn o l) (st.same k);
   intents = λ k. like-intent p.txn o (cell_of w k) l (st.intents k);
@@ -90,6 +90,7 @@ stands-like w p o l st = record {
   numbers = st.numbers;
   named = st.named;
   begun = st.begun;
+  copies = st.copies;
 }
 
 pub like-itself : (o : Option StoreTxn) → Like o o

@@ -1,5 +1,14 @@
 //! The laws as theorems.
+ghost use Rattle.ds_law.specs.Laws.{MoveLaw};
 ghost use Rattle.ds_rule.specs.Law.{ReadLaw, WholeLaw};
+
+/// Does nothing: its clause is the law of moves. Whatever a wire may make by itself above the open
+/// transaction's stamp, a split, a merge, a lease, a move, an old descriptor, an abort, a late copy or a
+/// write of another client, the world stands for its store afterwards as before.
+pub fn move_law()
+    ensures { MoveLaw }
+{
+}
 
 /// Does nothing: its clause is the law of a batch that only reads and goes request by request. What a
 /// call did means the plain store's answer, whatever happened beside it.

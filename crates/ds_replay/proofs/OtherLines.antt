@@ -59,7 +59,7 @@ cluster-line sim c s p tile leased is at = record {
   stands = (
     record {
       world = sym (ap (λ z. z.world) is);
-      stands = subst (StandsFor (first_world c.ranges)) (sym at.1) (first-stands c.ranges (tiled c.ranges tile));
+      stands = subst (StandsFor (first_world c.ranges)) (sym at.1) (first-stands c.ranges (tiled c.ranges tile) leased);
       steady = first-steady c.ranges leased;
       played = ap (λ z. z.asks.begun) at.0;
       stored = ap (λ z. z.begun) at.1;

@@ -18,10 +18,10 @@ use Rattle.ds_rule.specs.declared.event.Timed.{Timed}
 use Rattle.ds_rule.specs.declared.journal.JournalStep.{JournalStep}
 use Rattle.ds_rule.specs.declared.journal.JournalStep.TheVariants.{Look, Send}
 use Rattle.ds_rule.specs.Blocks.{BlockPlays}
-use Rattle.ds_rule.specs.Clauses.{Stands, Steps, Stays, IsAbove}
+use Rattle.ds_rule.specs.Clauses.{Stands, Steps, Stays}
 use Rattle.ds_rule.specs.Deliver.{deliver_answer, deliver_world}
 use Rattle.ds_rule.specs.Journal.{Moved, Did, Does, Runs, accepted, steps_of, moves_of}
-use Rattle.ds_rule.specs.Moves.{moved, counted}
+use Rattle.ds_rule.specs.Moves.{IsMove, moved, counted}
 use Rattle.ds_rule.specs.Pieces.{IsCut, IsOneOf, PieceOf}
 use Rattle.ds_rule.specs.World.{World, cell_of, look_rows}
 use Rattle.ds_rule.proofs.Examples.{key_a, key_m, low, high, world, get, put, alone_at, piece, asked_by, asked_at, saying, got, number_in, wrote, differs, never}
@@ -230,11 +230,11 @@ no_steps (e ∷ es) = no_steps es
 a_call_that_wants_memory_makes_no_step : Stays wire (record wire { past = Did look ∷ [] }) → ⊥
 a_call_that_wants_memory_makes_no_step h = differs (ap (λ hs. length (steps_of hs)) h.grown ∙ no_steps h.moves) (λ n. n == 1) refl refl
 
-a_foreign_write_stays_above_the_floor : IsAbove 10 (wrote key_a 11 5)
+a_foreign_write_stays_above_the_floor : IsMove 10 (wrote key_a 11 5)
 a_foreign_write_stays_above_the_floor = (lit< tt, refl)
 
-none_comes_at_the_floor : IsAbove 10 (wrote key_a 10 5) → ⊥
+none_comes_at_the_floor : IsMove 10 (wrote key_a 10 5) → ⊥
 none_comes_at_the_floor h = let low : 10 < 10 = h.0 in omega (arith, low)
 
-none_comes_at_the_bound : IsAbove 10 (wrote bound 11 5) → ⊥
+none_comes_at_the_bound : IsMove 10 (wrote bound 11 5) → ⊥
 none_comes_at_the_bound h = never h.1

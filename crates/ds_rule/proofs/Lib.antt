@@ -3,6 +3,7 @@ pub mod Eachs
 pub mod Examples
 pub mod ExamplesOfJournals
 pub mod ExamplesOfLimits
+pub mod ExamplesOfMoves
 pub mod ExamplesOfPaths
 pub mod ExamplesOfRecords
 pub mod ExamplesOfShifts

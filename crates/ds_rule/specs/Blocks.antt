@@ -1,9 +1,8 @@
 -- The block of a batch: its steps, and what happens beside them.
-use Rattle.std.specs.Prelude.{◌≡◌, ℕ, ◌+◌, true, List, [], ◌∷◌, map, filter, nat_le}
+use Rattle.std.specs.Prelude.{◌≡◌, ℕ, ◌+◌, true, List, [], ◌∷◌, filter, nat_le}
 use Rattle.ds_desc.specs.Contains.{lies_ahead}
 use Rattle.ds_desc.specs.declared.meta.Looked.TheVariants as Looked
 use Rattle.ds_rule.specs.declared.answer.Answer.TheVariants.{Done, Failed, Refused, Lost}
-use Rattle.ds_rule.specs.declared.event.Event.{Event}
 use Rattle.ds_rule.specs.declared.event.Timed.{Timed}
 use Rattle.ds_rule.specs.declared.journal.JournalStep.{JournalStep}
 use Rattle.ds_rule.specs.declared.journal.JournalStep.TheVariants.{Look, Send}
