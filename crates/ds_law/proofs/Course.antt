@@ -26,7 +26,7 @@ use Rattle.ds_rule.specs.declared.journal.JournalStep.TheVariants.{Look, Send}
 use Rattle.ds_rule.specs.declared.event.Event.{Event}
 use Rattle.ds_rule.specs.Asking.{Asking, Gives, at_of, txn_of}
 use Rattle.ds_rule.specs.Deliver.{holds_item, deliver_world, status_stops}
-use Rattle.ds_rule.specs.Journal.{Happening, Moved, Did, Does, Runs, Accepted, accepted, pairs}
+use Rattle.ds_rule.specs.Journal.{Happening, Moved, Did, Runs, Accepted, accepted, pairs}
 use Rattle.ds_rule.specs.Moves.{IsMove, moved}
 use Rattle.ds_rule.specs.Path.{IsHigh, IsOf}
 use Rattle.ds_rule.specs.Pieces.{Each, PieceOf}
@@ -34,6 +34,7 @@ use Rattle.ds_rule.specs.Plain.{after_event, abort_txn, aborted_by, is_pending}
 use Rattle.ds_rule.specs.StandsFor.{StandsFor, IsIntentOf, IsAt, IsWho, Knows, open_stamp, IsBefore, after_made}
 use Rattle.ds_rule.specs.World.{World, Range, start_of, contents, cell_of, has_id}
 use Rattle.ds_rule.proofs.Puts.{put-at}
+use Rattle.ds_rule.proofs.Passing.{Told, told}
 use Rattle.ds_law.proofs.Reading.{read_bits, same-read, same-places, shown_by, seen-same, seen-settled}
 use Rattle.ds_rule.proofs.Routes.{range-between, contents-ascend}
 use Rattle.ds_law.proofs.Recorded.{Pends, pends}
@@ -283,20 +284,20 @@ course q floor [] w v p first read high of r way = record { stands = subst (λ u
 course q floor (Moved e ∷ hs) w v p first read high of r way =
     course q floor hs r.0 v (after_event e p) first read high.1 of.1 r.2 (subst (λ u. OnWay q.head floor u (after_event e p) first) (sym r.1) (way-moved q.head floor w p first e high.0 way))
 course q floor (Did (Look k d (Looked.Rows infos)) ∷ hs) w v p first read high of r way =
-    course q floor hs r.0 v p first read high.1 of.1 r.2 (way-stays q.head floor w r.0 p first (look-unmoved w r.0 k d r.1.1) way)
+    course q floor hs r.0 v p first read high.1 of.1 r.2 (way-stays q.head floor w r.0 p first (look-unmoved w r.0 k d (told w (Look k d (Looked.Rows infos)) r.0 r.1).1) way)
 course q floor (Did (Look k d Looked.Lost) ∷ hs) w v p first read high of r way =
-    course q floor hs r.0 v p first read high.1 of.1 r.2 (way-stays q.head floor w r.0 p first (unmoved w r.0 r.1.0) way)
+    course q floor hs r.0 v p first read high.1 of.1 r.2 (way-stays q.head floor w r.0 p first (unmoved w r.0 (told w (Look k d Looked.Lost) r.0 r.1).0) way)
 course q floor (Did (Send n piece (Done rs)) ∷ hs) w v p first read high of r way =
     arrived-more q v (after_made hs p) first (pairs piece.head piece.items rs) (accepted hs)
-    (piece-plain q floor w p first n piece rs way read of.0 (service w n piece rs r.1.0))
-    (course q floor hs r.0 v p first read high.1 of.1 r.2 (way-delivered q.head floor w r.0 p first n piece r.1.1 (cuts-read piece.items q.items read of.0.cuts) way))
+    (piece-plain q floor w p first n piece rs way read of.0 (service w n piece rs (told w (Send n piece (Done rs)) r.0 r.1).0))
+    (course q floor hs r.0 v p first read high.1 of.1 r.2 (way-delivered q.head floor w r.0 p first n piece (told w (Send n piece (Done rs)) r.0 r.1).1 (cuts-read piece.items q.items read of.0.cuts) way))
 course q floor (Did (Send n piece (Failed f)) ∷ hs) w v p first read high of r way =
-    course q floor hs r.0 v p first read high.1 of.1 r.2 (way-delivered q.head floor w r.0 p first n piece r.1.1 (cuts-read piece.items q.items read of.0.cuts) way)
+    course q floor hs r.0 v p first read high.1 of.1 r.2 (way-delivered q.head floor w r.0 p first n piece (told w (Send n piece (Failed f)) r.0 r.1).1 (cuts-read piece.items q.items read of.0.cuts) way)
 course q floor (Did (Send n piece (Refused f)) ∷ hs) w v p first read high of r way =
-    course q floor hs r.0 v p first read high.1 of.1 r.2 (way-delivered q.head floor w r.0 p first n piece r.1.1 (cuts-read piece.items q.items read of.0.cuts) way)
+    course q floor hs r.0 v p first read high.1 of.1 r.2 (way-delivered q.head floor w r.0 p first n piece (told w (Send n piece (Refused f)) r.0 r.1).1 (cuts-read piece.items q.items read of.0.cuts) way)
 course q floor (Did (Send n piece Lost) ∷ hs) w v p first read high of r way =
-    course q floor hs r.0 v p first read high.1 of.1 r.2 (either r.1)
+    course q floor hs r.0 v p first read high.1 of.1 r.2 (either (told w (Send n piece Lost) r.0 r.1))
   where
-    either : Does w (Send n piece Lost) r.0 → OnWay q.head floor r.0 p first
+    either : Told w (Send n piece Lost) r.0 → OnWay q.head floor r.0 p first
     either (inl same) = way-stays q.head floor w r.0 p first (unmoved w r.0 same) way
     either (inr is) = way-delivered q.head floor w r.0 p first n piece is (cuts-read piece.items q.items read of.0.cuts) way

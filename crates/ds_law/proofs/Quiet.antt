@@ -18,6 +18,7 @@ use Rattle.ds_rule.specs.Law.{IsQuiet}
 use Rattle.ds_rule.specs.Pieces.{Each}
 use Rattle.ds_rule.specs.StandsFor.{StandsFor, after_made}
 use Rattle.ds_rule.specs.World.{World, Range, has_id}
+use Rattle.ds_rule.proofs.Passing.{told}
 use Rattle.ds_law.proofs.Truth.{Unmoved, look-unmoved, looks-stay, unmoved}
 
 -- a store that nothing happens to beside the steps stays as it is
@@ -59,13 +60,13 @@ pub idle-stays : (hs : List Happening) (w v : World) → Each IsIdle hs → Each
 idle-stays [] w v idle quiet r = unmoved w v r
 idle-stays (Moved e ∷ hs) w v idle quiet r = absurd quiet.0
 idle-stays (Did (Look k d (Looked.Rows infos)) ∷ hs) w v idle quiet r =
-    unmoved-then w r.0 v (look-unmoved w r.0 k d r.1.1) (idle-stays hs r.0 v idle.1 quiet.1 r.2)
+    unmoved-then w r.0 v (look-unmoved w r.0 k d (told w (Look k d (Looked.Rows infos)) r.0 r.1).1) (idle-stays hs r.0 v idle.1 quiet.1 r.2)
 idle-stays (Did (Look k d Looked.Lost) ∷ hs) w v idle quiet r = absurd (quiet.0 tt)
 idle-stays (Did (Send n p (Done rs)) ∷ hs) w v idle quiet r = absurd idle.0
 idle-stays (Did (Send n p (Failed f)) ∷ hs) w v idle quiet r =
-    unmoved-then w r.0 v (unmoved w r.0 (r.1.1 ∙ not-done-stays w n p (Failed f) (failed-not-done f) r.1.0)) (idle-stays hs r.0 v idle.1 quiet.1 r.2)
+    unmoved-then w r.0 v (unmoved w r.0 ((told w (Send n p (Failed f)) r.0 r.1).1 ∙ not-done-stays w n p (Failed f) (failed-not-done f) (told w (Send n p (Failed f)) r.0 r.1).0)) (idle-stays hs r.0 v idle.1 quiet.1 r.2)
 idle-stays (Did (Send n p (Refused f)) ∷ hs) w v idle quiet r =
-    unmoved-then w r.0 v (unmoved w r.0 (r.1.1 ∙ not-done-stays w n p (Refused f) (refused-not-done f) r.1.0)) (idle-stays hs r.0 v idle.1 quiet.1 r.2)
+    unmoved-then w r.0 v (unmoved w r.0 ((told w (Send n p (Refused f)) r.0 r.1).1 ∙ not-done-stays w n p (Refused f) (refused-not-done f) (told w (Send n p (Refused f)) r.0 r.1).0)) (idle-stays hs r.0 v idle.1 quiet.1 r.2)
 idle-stays (Did (Send n p Lost) ∷ hs) w v idle quiet r = absurd (quiet.0 tt)
 
 -- so the world stands for the store as before

@@ -34,6 +34,7 @@ use Rattle.ds_rule.specs.Pieces.{Each, IsOneOf}
 use Rattle.ds_rule.specs.Steady.{Steady, has_lease, ids_differ, infos_in}
 use Rattle.ds_rule.specs.World.{World, Range, from_first, in_order, look_rows, look_world, rows_at, without_first, has_id, holds_key, replaced}
 use Rattle.ds_world.proofs.First.{first-ids, first-leases}
+use Rattle.ds_rule.proofs.Passing.{told}
 use Rattle.ds_law.proofs.Failing.{status_of}
 use Rattle.ds_law.proofs.Lifetime.{settled-infos}
 
@@ -96,11 +97,11 @@ deliver-steady w n p st = to-steady w n p (find (has_id p.range) w.ranges) st
 pub quiet-steady : (hs : List Happening) (w v : World) → Each IsQuiet hs → Runs w hs v → Steady w → Steady v
 quiet-steady [] w v quiet r st = subst Steady (sym r) st
 quiet-steady (Moved e ∷ hs) w v quiet r st = absurd quiet.0
-quiet-steady (Did (Look k d (Looked.Rows infos)) ∷ hs) w v quiet r st = quiet-steady hs r.0 v quiet.1 r.2 (subst Steady (sym r.1.1) (look-steady w k d st))
+quiet-steady (Did (Look k d (Looked.Rows infos)) ∷ hs) w v quiet r st = quiet-steady hs r.0 v quiet.1 r.2 (subst Steady (sym (told w (Look k d (Looked.Rows infos)) r.0 r.1).1) (look-steady w k d st))
 quiet-steady (Did (Look k d Looked.Lost) ∷ hs) w v quiet r st = absurd (quiet.0 tt)
-quiet-steady (Did (Send n p (Done rs)) ∷ hs) w v quiet r st = quiet-steady hs r.0 v quiet.1 r.2 (subst Steady (sym r.1.1) (deliver-steady w n p st))
-quiet-steady (Did (Send n p (Failed f)) ∷ hs) w v quiet r st = quiet-steady hs r.0 v quiet.1 r.2 (subst Steady (sym r.1.1) (deliver-steady w n p st))
-quiet-steady (Did (Send n p (Refused f)) ∷ hs) w v quiet r st = quiet-steady hs r.0 v quiet.1 r.2 (subst Steady (sym r.1.1) (deliver-steady w n p st))
+quiet-steady (Did (Send n p (Done rs)) ∷ hs) w v quiet r st = quiet-steady hs r.0 v quiet.1 r.2 (subst Steady (sym (told w (Send n p (Done rs)) r.0 r.1).1) (deliver-steady w n p st))
+quiet-steady (Did (Send n p (Failed f)) ∷ hs) w v quiet r st = quiet-steady hs r.0 v quiet.1 r.2 (subst Steady (sym (told w (Send n p (Failed f)) r.0 r.1).1) (deliver-steady w n p st))
+quiet-steady (Did (Send n p (Refused f)) ∷ hs) w v quiet r st = quiet-steady hs r.0 v quiet.1 r.2 (subst Steady (sym (told w (Send n p (Refused f)) r.0 r.1).1) (deliver-steady w n p st))
 quiet-steady (Did (Send n p Lost) ∷ hs) w v quiet r st = absurd (quiet.0 tt)
 
 -- a lookup's first row is of a range
@@ -242,20 +243,20 @@ pub all-taken : (hs : List Happening) (route : Option Info) (w v : World) → St
 all-taken [] route w v st found routed quiet r = record { refusals = refl; losses = refl }
 all-taken (Moved e ∷ hs) route w v st found routed quiet r = absurd quiet.0
 all-taken (Did (Look k d (Looked.Rows infos)) ∷ hs) route w v st found routed quiet r =
-    let after : r.0 ≡ look_world w k d = r.1.1 in
-    let more = all-taken hs (route_by (Look k d (Looked.Rows infos))) r.0 v (subst Steady (sym after) (look-steady w k d st)) (subst (IsFound (route_by (Look k d (Looked.Rows infos)))) (sym after) (found-by w k d infos st r.1.0)) routed.1 quiet.1 r.2 in
+    let after : r.0 ≡ look_world w k d = (told w (Look k d (Looked.Rows infos)) r.0 r.1).1 in
+    let more = all-taken hs (route_by (Look k d (Looked.Rows infos))) r.0 v (subst Steady (sym after) (look-steady w k d st)) (subst (IsFound (route_by (Look k d (Looked.Rows infos)))) (sym after) (found-by w k d infos st (told w (Look k d (Looked.Rows infos)) r.0 r.1).0)) routed.1 quiet.1 r.2 in
     let sums = one-taken hs _ _ more refl refl in
     record { refusals = sums.0; losses = sums.1 }
 all-taken (Did (Look k d Looked.Lost) ∷ hs) route w v st found routed quiet r = absurd (quiet.0 tt)
 all-taken (Did (Send n p (Done rs)) ∷ hs) route w v st found routed quiet r =
-    let more = all-taken hs None r.0 v (subst Steady (sym r.1.1) (deliver-steady w n p st)) tt routed.1 quiet.1 r.2 in
+    let more = all-taken hs None r.0 v (subst Steady (sym (told w (Send n p (Done rs)) r.0 r.1).1) (deliver-steady w n p st)) tt routed.1 quiet.1 r.2 in
     let sums = one-taken hs _ _ more refl refl in
     record { refusals = sums.0; losses = sums.1 }
 all-taken (Did (Send n p (Failed f)) ∷ hs) route w v st found routed quiet r =
-    let more = all-taken hs None r.0 v (subst Steady (sym r.1.1) (deliver-steady w n p st)) tt routed.1 quiet.1 r.2 in
+    let more = all-taken hs None r.0 v (subst Steady (sym (told w (Send n p (Failed f)) r.0 r.1).1) (deliver-steady w n p st)) tt routed.1 quiet.1 r.2 in
     let sums = one-taken hs _ _ more refl refl in
     record { refusals = sums.0; losses = sums.1 }
-all-taken (Did (Send n p (Refused f)) ∷ hs) route w v st found routed quiet r = absurd (refused-never w route n p f st found routed.0 r.1.0)
+all-taken (Did (Send n p (Refused f)) ∷ hs) route w v st found routed quiet r = absurd (refused-never w route n p f st found routed.0 (told w (Send n p (Refused f)) r.0 r.1).0)
 all-taken (Did (Send n p Lost) ∷ hs) route w v st found routed quiet r = absurd (quiet.0 tt)
 
 -- a budget of some tries is never used up where none is spent

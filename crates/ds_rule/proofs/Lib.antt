@@ -10,6 +10,7 @@ pub mod ExamplesOfShifts
 pub mod ExamplesOfStores
 pub mod Lasts
 pub mod Numbered
+pub mod Passing
 pub mod Puts
 pub mod Routes
 pub mod Service
