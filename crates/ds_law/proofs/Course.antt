@@ -40,7 +40,7 @@ use Rattle.ds_rule.proofs.Routes.{range-between, contents-ascend}
 use Rattle.ds_law.proofs.Recorded.{Pends, pends}
 use Rattle.ds_rule.proofs.Service.{Service, service, held, takes}
 use Rattle.ds_law.proofs.Standing.{stands-moved}
-use Rattle.ds_law.proofs.Truth.{IsRead, IsTrue, Unmoved, reply_of, all-read, cuts-read, reads-stay, look-unmoved, looks-stay, unmoved}
+use Rattle.ds_law.proofs.Truth.{IsRead, IsTrue, Unmoved, reply_of, cuts-read, reads-stay, look-unmoved, looks-stay, unmoved, reads-no-rollback, served-reads}
 
 -- what the batch sees at each key of the one store, it sees of the other
 abbrev pub SeesSame : Head → Store → Store → Type 0
@@ -154,21 +154,25 @@ each-plain : (h : Head) (first : Store) (xs : List Accepted) → (Knows h.txn fi
 each-plain h first [] pending all = tt
 each-plain h first (x ∷ xs) pending all = (record { true_ = all.0; pending = pending }, each-plain h first xs pending all.1)
 
+-- a piece of a batch without a limit has none
+pub no-limit : (q : Asking) (piece : Piece) → q.head.left ≡ None → PieceOf q q.head.left piece → piece.head.left ≡ None
+no-limit q piece free of = ap (λ (h : Head). h.left) of.head ∙ free
+
 -- a piece that was served
-piece-true : (q : Asking) (floor : ℕ) (w : World) (p first : Store) (n : ℕ) (piece : Piece) (rs : List Reply) → OnWay q.head floor w p first → Each IsRead q.items → PieceOf q q.head.left piece → Service w n piece rs → Each (IsTrue q.head first.cells) (pairs piece.head piece.items rs)
-piece-true q floor w p first n piece rs way read of sv =
+piece-true : (q : Asking) (floor : ℕ) (w : World) (p first : Store) (n : ℕ) (piece : Piece) (rs : List Reply) → OnWay q.head floor w p first → Each IsRead q.items → q.head.left ≡ None → PieceOf q q.head.left piece → Service w n piece rs → Each (IsTrue q.head first.cells) (pairs piece.head piece.items rs)
+piece-true q floor w p first n piece rs way read free of sv =
     let each = cuts-read piece.items q.items read of.cuts in
-    let same : map (reply_of piece.head sv.range.cells) piece.items ≡ rs = gives-same _ _ _ _ _ (sym (all-read piece.head piece.items sv.range.cells each) ∙ sv.gives) in
+    let same : map (reply_of piece.head sv.range.cells) piece.items ≡ rs = gives-same _ _ _ _ _ (sym (served-reads w piece sv.range (no-limit q piece free of) each) ∙ sv.gives) in
     subst (λ qs. Each (IsTrue q.head first.cells) (pairs piece.head piece.items qs)) same
     (subst (λ h. Each (IsTrue q.head first.cells) (pairs h piece.items (map (reply_of h sv.range.cells) piece.items))) (sym of.head)
     (items-true q.head floor w p first sv.range (has_id piece.range) piece.items way sv.found (held w n piece sv.range sv.goes) each))
 
 -- it finds its transaction pending
-piece-plain : (q : Asking) (floor : ℕ) (w : World) (p first : Store) (n : ℕ) (piece : Piece) (rs : List Reply) → OnWay q.head floor w p first → Each IsRead q.items → PieceOf q q.head.left piece → Service w n piece rs → Each (IsPlain q.head first) (pairs piece.head piece.items rs)
-piece-plain q floor w p first n piece rs way read of sv =
+piece-plain : (q : Asking) (floor : ℕ) (w : World) (p first : Store) (n : ℕ) (piece : Piece) (rs : List Reply) → OnWay q.head floor w p first → Each IsRead q.items → q.head.left ≡ None → PieceOf q q.head.left piece → Service w n piece rs → Each (IsPlain q.head first) (pairs piece.head piece.items rs)
+piece-plain q floor w p first n piece rs way read free of sv =
     each-plain q.head first (pairs piece.head piece.items rs)
-    (λ known. way.back (pends q.head.txn p.txn w.records way.who (way.knows known) way.stands.recorded way.stands.numbers (subst (λ h. status_stops (find (λ t. t.txn.0 == txn_of h) w.records) ≡ None) of.head (takes w n piece sv.range sv.goes))))
-    (piece-true q floor w p first n piece rs way read of sv)
+    (λ known. way.back (pends q.head.txn p.txn w.records piece way.who (way.knows known) way.stands.recorded way.stands.numbers (reads-no-rollback piece.items (cuts-read piece.items q.items read of.cuts)) (subst (λ h. status_stops (find (λ t. t.txn.0 == txn_of h) w.records) piece ≡ None) of.head (takes w n piece sv.range sv.goes))))
+    (piece-true q floor w p first n piece rs way read free of sv)
 
 -- one happening after the other
 
@@ -266,9 +270,9 @@ way-stays h floor w v p first same way = record {
   open_low = way.open_low;
 }
 
-way-delivered : (h : Head) (floor : ℕ) (w v : World) (p first : Store) (n : ℕ) (piece : Piece) → v ≡ deliver_world w n piece → Each IsRead piece.items → OnWay h floor w p first → OnWay h floor v p first
-way-delivered h floor w v p first n piece is read way =
-    way-stays h floor w v p first (unmoved w v (is ∙ reads-stay w n piece read)) way
+way-delivered : (h : Head) (floor : ℕ) (w v : World) (p first : Store) (n : ℕ) (piece : Piece) → v ≡ deliver_world w n piece → piece.head.left ≡ None → Each IsRead piece.items → OnWay h floor w p first → OnWay h floor v p first
+way-delivered h floor w v p first n piece is free read way =
+    way-stays h floor w v p first (unmoved w v (is ∙ reads-stay w n piece free read)) way
 
 -- the end of the way: where the world stands, and what was answered
 pub record Arrived (q : Asking) (v : World) (p first : Store) (got : List Accepted) : Type 0 where
@@ -279,25 +283,25 @@ arrived-more : (q : Asking) (v : World) (p first : Store) (xs got : List Accepte
 arrived-more q v p first xs got now there = record { stands = there.stands; answers = each-append (IsPlain q.head first) xs got now there.answers }
 
 -- over all that happened in a call
-pub course : (q : Asking) (floor : ℕ) (hs : List Happening) (w v : World) (p first : Store) → Each IsRead q.items → Each (IsHigh floor) hs → Each (IsOf q) hs → Runs w hs v → OnWay q.head floor w p first → Arrived q v (after_made hs p) first (accepted hs)
-course q floor [] w v p first read high of r way = record { stands = subst (λ u. StandsFor u p) (sym r) way.stands; answers = tt }
-course q floor (Moved e ∷ hs) w v p first read high of r way =
-    course q floor hs r.0 v (after_event e p) first read high.1 of.1 r.2 (subst (λ u. OnWay q.head floor u (after_event e p) first) (sym r.1) (way-moved q.head floor w p first e high.0 way))
-course q floor (Did (Look k d (Looked.Rows infos)) ∷ hs) w v p first read high of r way =
-    course q floor hs r.0 v p first read high.1 of.1 r.2 (way-stays q.head floor w r.0 p first (look-unmoved w r.0 k d (told w (Look k d (Looked.Rows infos)) r.0 r.1).1) way)
-course q floor (Did (Look k d Looked.Lost) ∷ hs) w v p first read high of r way =
-    course q floor hs r.0 v p first read high.1 of.1 r.2 (way-stays q.head floor w r.0 p first (unmoved w r.0 (told w (Look k d Looked.Lost) r.0 r.1).0) way)
-course q floor (Did (Send n piece (Done rs)) ∷ hs) w v p first read high of r way =
+pub course : (q : Asking) (floor : ℕ) (hs : List Happening) (w v : World) (p first : Store) → Each IsRead q.items → q.head.left ≡ None → Each (IsHigh floor) hs → Each (IsOf q) hs → Runs w hs v → OnWay q.head floor w p first → Arrived q v (after_made hs p) first (accepted hs)
+course q floor [] w v p first read free high of r way = record { stands = subst (λ u. StandsFor u p) (sym r) way.stands; answers = tt }
+course q floor (Moved e ∷ hs) w v p first read free high of r way =
+    course q floor hs r.0 v (after_event e p) first read free high.1 of.1 r.2 (subst (λ u. OnWay q.head floor u (after_event e p) first) (sym r.1) (way-moved q.head floor w p first e high.0 way))
+course q floor (Did (Look k d (Looked.Rows infos)) ∷ hs) w v p first read free high of r way =
+    course q floor hs r.0 v p first read free high.1 of.1 r.2 (way-stays q.head floor w r.0 p first (look-unmoved w r.0 k d (told w (Look k d (Looked.Rows infos)) r.0 r.1).1) way)
+course q floor (Did (Look k d Looked.Lost) ∷ hs) w v p first read free high of r way =
+    course q floor hs r.0 v p first read free high.1 of.1 r.2 (way-stays q.head floor w r.0 p first (unmoved w r.0 (told w (Look k d Looked.Lost) r.0 r.1).0) way)
+course q floor (Did (Send n piece (Done rs)) ∷ hs) w v p first read free high of r way =
     arrived-more q v (after_made hs p) first (pairs piece.head piece.items rs) (accepted hs)
-    (piece-plain q floor w p first n piece rs way read of.0 (service w n piece rs (told w (Send n piece (Done rs)) r.0 r.1).0))
-    (course q floor hs r.0 v p first read high.1 of.1 r.2 (way-delivered q.head floor w r.0 p first n piece (told w (Send n piece (Done rs)) r.0 r.1).1 (cuts-read piece.items q.items read of.0.cuts) way))
-course q floor (Did (Send n piece (Failed f)) ∷ hs) w v p first read high of r way =
-    course q floor hs r.0 v p first read high.1 of.1 r.2 (way-delivered q.head floor w r.0 p first n piece (told w (Send n piece (Failed f)) r.0 r.1).1 (cuts-read piece.items q.items read of.0.cuts) way)
-course q floor (Did (Send n piece (Refused f)) ∷ hs) w v p first read high of r way =
-    course q floor hs r.0 v p first read high.1 of.1 r.2 (way-delivered q.head floor w r.0 p first n piece (told w (Send n piece (Refused f)) r.0 r.1).1 (cuts-read piece.items q.items read of.0.cuts) way)
-course q floor (Did (Send n piece Lost) ∷ hs) w v p first read high of r way =
-    course q floor hs r.0 v p first read high.1 of.1 r.2 (either (told w (Send n piece Lost) r.0 r.1))
+    (piece-plain q floor w p first n piece rs way read free of.0 (service w n piece rs (told w (Send n piece (Done rs)) r.0 r.1).0))
+    (course q floor hs r.0 v p first read free high.1 of.1 r.2 (way-delivered q.head floor w r.0 p first n piece (told w (Send n piece (Done rs)) r.0 r.1).1 (no-limit q piece free of.0) (cuts-read piece.items q.items read of.0.cuts) way))
+course q floor (Did (Send n piece (Failed f)) ∷ hs) w v p first read free high of r way =
+    course q floor hs r.0 v p first read free high.1 of.1 r.2 (way-delivered q.head floor w r.0 p first n piece (told w (Send n piece (Failed f)) r.0 r.1).1 (no-limit q piece free of.0) (cuts-read piece.items q.items read of.0.cuts) way)
+course q floor (Did (Send n piece (Refused f)) ∷ hs) w v p first read free high of r way =
+    course q floor hs r.0 v p first read free high.1 of.1 r.2 (way-delivered q.head floor w r.0 p first n piece (told w (Send n piece (Refused f)) r.0 r.1).1 (no-limit q piece free of.0) (cuts-read piece.items q.items read of.0.cuts) way)
+course q floor (Did (Send n piece Lost) ∷ hs) w v p first read free high of r way =
+    course q floor hs r.0 v p first read free high.1 of.1 r.2 (either (told w (Send n piece Lost) r.0 r.1))
   where
     either : Told w (Send n piece Lost) r.0 → OnWay q.head floor r.0 p first
     either (inl same) = way-stays q.head floor w r.0 p first (unmoved w r.0 same) way
-    either (inr is) = way-delivered q.head floor w r.0 p first n piece is (cuts-read piece.items q.items read of.0.cuts) way
+    either (inr is) = way-delivered q.head floor w r.0 p first n piece is (no-limit q piece free of.0) (cuts-read piece.items q.items read of.0.cuts) way

@@ -16,16 +16,16 @@ use Rattle.ds_rule.specs.Journal.{Happening, Runs}
 use Rattle.ds_rule.specs.Pieces.{Each}
 use Rattle.ds_rule.specs.StandsFor.{record_number}
 use Rattle.ds_rule.specs.World.{World, Range, has_id}
-use Rattle.ds_law.proofs.Truth.{IsRead, all-read}
+use Rattle.ds_law.proofs.Truth.{IsRead, served-reads}
 
 -- the record that the piece's transaction has
 abbrev pub status_of : World → Piece → Option Failure
-status_of w p = status_stops (find (λ t. t.txn.0 == txn_of p.head) w.records)
+status_of w p = status_stops (find (λ t. t.txn.0 == txn_of p.head) w.records) p
 
 -- why a delivered piece failed: its transaction's record, or one of its items
 pub data Why (w : World) (node : ℕ) (p : Piece) (f : Failure) : Type 0 where
   ByRecord : status_of w p ≡ Some f → Why w node p f
-  ByItem : (r : Range) → find (has_id p.range) w.ranges ≡ Some r → stops w node p r ≡ None → served p r ≡ Fails f → Why w node p f
+  ByItem : (r : Range) → find (has_id p.range) w.ranges ≡ Some r → stops w node p r ≡ None → served w p r ≡ Fails f → Why w node p f
 
 failed-made : (m : Made) (f : Failure) → Failed f ≡ answer_made m → m ≡ Fails f
 failed-made (Gives cells ws rs) f h = cc
@@ -56,7 +56,7 @@ stopped-by w node p r f h =
     (past_test (not (list_any (λ n. n == node) r.info.desc.nodes)) NotFound second f h)))
 
 why-at : (w : World) (node : ℕ) (p : Piece) (r : Range) (o : Option Stop) (f : Failure) → find (has_id p.range) w.ranges ≡ Some r → stops w node p r ≡ o → Failed f ≡ answer_at w p r o → Why w node p f
-why-at w node p r None f found is h = ByItem r found is (failed-made (served p r) f h)
+why-at w node p r None f found is h = ByItem r found is (failed-made (served w p r) f h)
 why-at w node p r (Some s) f found is h = ByRecord (stopped-by w node p r f (is ∙ ap Some (failed-stop s f h)))
 
 pub why : (w : World) (node : ℕ) (p : Piece) (f : Failure) → Failed f ≡ deliver_answer w node p → Why w node p f
@@ -70,12 +70,12 @@ never-fails : (cells : Cells) (rs : List Reply) (f : Failure) → Gives cells []
 never-fails cells rs f h = cc
 
 -- reads fail by the record alone
-pub reads-fail : (w : World) (node : ℕ) (p : Piece) (f : Failure) → Each IsRead p.items → Failed f ≡ deliver_answer w node p → status_of w p ≡ Some f
-reads-fail w node p f read h = by (why w node p f h)
+pub reads-fail : (w : World) (node : ℕ) (p : Piece) (f : Failure) → p.head.left ≡ None → Each IsRead p.items → Failed f ≡ deliver_answer w node p → status_of w p ≡ Some f
+reads-fail w node p f free read h = by (why w node p f h)
   where
     by : Why w node p f → status_of w p ≡ Some f
     by (ByRecord is) = is
-    by (ByItem r found goes fails) = absurd (never-fails _ _ f (sym (all-read p.head p.items r.cells read) ∙ fails))
+    by (ByItem r found goes fails) = absurd (never-fails _ _ f (sym (served-reads w p r free read) ∙ fails))
 
 -- no record has the number 0
 
@@ -87,7 +87,7 @@ none-named (t ∷ ts) all =
 
 -- so no record stops a piece without a transaction
 pub nothing-stops : (w : World) (p : Piece) → AllAbove record_number 0 w.records → txn_of p.head ≡ 0 → status_of w p ≡ None
-nothing-stops w p all is = ap (λ n. status_stops (find (λ t. t.txn.0 == n) w.records)) is ∙ ap status_stops (none-named w.records all)
+nothing-stops w p all is = ap (λ n. status_stops (find (λ t. t.txn.0 == n) w.records) p) is ∙ ap (λ o. status_stops o p) (none-named w.records all)
 
 -- what happened, cut in two
 pub runs-cut : (w v : World) (xs ys : List Happening) → Runs w (xs ++ ys) v → (m : World) × Runs w xs m × Runs m ys v

@@ -39,7 +39,7 @@ write-keeps : (h : Head) (N : List ℕ → Type 0) (P : Cells → Type 0) (n : �
 write-keeps h N P n [] cells kept p all = p
 write-keeps h N P n (w ∷ ws) cells kept p all = write-keeps h N P n ws _ kept (kept w.0 n w.1 cells all.0 p) all.1
 
-made-keeps : (h : Head) (N : List ℕ → Type 0) (P : Cells → Type 0) (i : Item) (a : Asked) (cells : Cells) → IsKept h N P → P cells → Keeps N P (made_by h i a cells)
+pub made-keeps : (h : Head) (N : List ℕ → Type 0) (P : Cells → Type 0) (i : Item) (a : Asked) (cells : Cells) → IsKept h N P → P cells → Keeps N P (made_by h i a cells)
 made-keeps h N P i (Failed k f) cells kept p = tt
 made-keeps h N P i (Gave bs ws) cells kept p = λ all. write-keeps h N P i.seq.0 ws cells kept p all
 

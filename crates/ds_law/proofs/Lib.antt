@@ -12,6 +12,7 @@ pub mod ReadLaw
 pub mod Reading
 pub mod Recorded
 pub mod Replacing
+pub mod Resolving
 pub mod Served
 pub mod Settling
 pub mod Standing

@@ -167,7 +167,7 @@ content-settled n c k (p ∷ ps) =
 
 -- what stands at a key, settled without a commit
 
-settled-none : (n : ℕ) (commit : Option Stamp) (c : Content) → c.history ≡ [] → settled n commit c ≡ c
+pub settled-none : (n : ℕ) (commit : Option Stamp) (c : Content) → c.history ≡ [] → settled n commit c ≡ c
 settled-none n commit c none = ap (λ h. settled_by commit (last_of h) c) nothing
   where
     nothing : held n c ≡ []

@@ -38,7 +38,7 @@ made-stays w p (Gives cells ws rs) a never h = absurd (never rs h)
 
 at-stays : (w : World) (p : Piece) (r : Range) (o : Option Stop) (a : Answer) → IsNotDone a → a ≡ answer_at w p r o → world_at w p r o ≡ w
 at-stays w p r (Some s) a never h = refl
-at-stays w p r None a never h = made-stays w p (served p r) a never h
+at-stays w p r None a never h = made-stays w p (served w p r) a never h
 
 to-stays : (w : World) (n : ℕ) (p : Piece) (o : Option Range) (a : Answer) → IsNotDone a → a ≡ deliver_answer_to w n p o → deliver_world_to w n p o ≡ w
 to-stays w n p None a never h = refl

@@ -22,16 +22,17 @@ use Rattle.ds_rule.specs.declared.record.TxnRecord.{TxnRecord}
 use Rattle.ds_rule.specs.Asking.{Asking, asking, asking_by, head_of, numbered, finished, txn_of, txn_number}
 use Rattle.ds_rule.specs.Clauses.{Stands}
 use Rattle.ds_rule.specs.Gathered.{Gathered, by_start, at_position}
+use Rattle.ds_rule.specs.Deliver.{is_rollback}
 use Rattle.ds_rule.specs.Journal.{Did as Stepped, Runs, Accepted, accepted}
 use Rattle.ds_rule.specs.Cause.{LastFails}
 use Rattle.ds_rule.specs.Law.{LeadsTo, IsProperRead, IsReading, ReadLaw}
 use Rattle.ds_rule.specs.Path.{Path, IsHigh, IsOf}
 use Rattle.ds_rule.specs.Pieces.{Each}
-use Rattle.ds_rule.specs.Plain.{Answered, uses_numbers, counted_txn, if_of_txn, counted_store, failed_mode, failed_txn, failed_store, is_pending, is_rollback, finds_pending, in_doubt, doubtful, count_numbered, asker_in}
+use Rattle.ds_rule.specs.Plain.{Answered, uses_numbers, counted_txn, if_of_txn, counted_store, failed_mode, failed_txn, failed_store, is_pending, finds_pending, in_doubt, doubtful, count_numbered, asker_in}
 use Rattle.ds_rule.specs.StandsFor.{IsAt, open_stamp, IsIntentOf, HasRecord, HasRecordOf, record_for, status_for, StandsFor, after_made, IsBefore, IsKnown, IsWho, Knows, Ready}
 use Rattle.ds_rule.specs.World.{World, cell_of}
 use Rattle.ds_rule.proofs.Passing.{told}
-use Rattle.ds_law.proofs.Course.{OnWay, IsPlain, Arrived, course}
+use Rattle.ds_law.proofs.Course.{OnWay, IsPlain, Arrived, course, no-limit}
 use Rattle.ds_law.proofs.Failing.{reads-fail, nothing-stops, runs-cut}
 use Rattle.ds_law.proofs.Joining.{gathered-asks, joined-some}
 use Rattle.ds_law.proofs.Recorded.{Pends, known-last}
@@ -211,9 +212,27 @@ pub each-read : (items : List Item) → Each IsProperRead items → Each IsRead 
 each-read [] all = tt
 each-read (i ∷ is) all = (all.0.read, each-read is all.1)
 
-arrive : (a b : Stands) (p first : Store) (batch : Batch) (q : Asking) (got : List Accepted) → IsReading batch q → (path : Path q a b got) → OnWay q.head a.floor a.world p first → Arrived q b.world (after_made path.added p) first (accepted path.added)
-arrive a b p first batch q got reading path way =
-    course q a.floor path.added a.world b.world p first (each-read q.items reading.reads) path.high path.of path.runs way
+-- a batch without a limit is asked without one
+
+asked-left : (at : Option Stamp) (t : Option Asker) (b : Batch) (q : Asking) → asking_by at t b ≡ Some q → q.head.left ≡ b.limit
+asked-left (Some s) t b q h = sym (ap left_in h)
+  where
+    left_in : Option Asking → Option ℕ
+    left_in None = None
+    left_in (Some z) = z.head.left
+asked-left None None b q h = cc
+asked-left None (Some t) b q h = sym (ap left_in h)
+  where
+    left_in : Option Asking → Option ℕ
+    left_in None = None
+    left_in (Some z) = z.head.left
+
+pub no-left : (a : Stands) (p : Store) (batch : Batch) (q : Asking) → batch.limit ≡ None → Ready a p batch q → q.head.left ≡ None
+no-left a p batch q none ready = asked-left batch.at (asker_in p) batch q ready.asks ∙ none
+
+arrive : (a b : Stands) (p first : Store) (batch : Batch) (q : Asking) (got : List Accepted) → IsReading batch q → q.head.left ≡ None → (path : Path q a b got) → OnWay q.head a.floor a.world p first → Arrived q b.world (after_made path.added p) first (accepted path.added)
+arrive a b p first batch q got reading free path way =
+    course q a.floor path.added a.world b.world p first (each-read q.items reading.reads) free path.high path.of path.runs way
 
 -- an answer that leaves the store's contents
 
@@ -223,7 +242,7 @@ led a b p batch q o got t reading path l ready answered = record {
   grown = path.grown;
   next = record p { txn = t };
   answered = answered;
-  stands = (arrive a b (record p { txn = t }) (record p { txn = t }) batch q got reading path (way-doubt a p batch q t l ready)).stands;
+  stands = (arrive a b (record p { txn = t }) (record p { txn = t }) batch q got reading (no-left a p batch q reading.unlimited ready) path (way-doubt a p batch q t l ready)).stands;
 }
 
 -- an Ok answer
@@ -259,7 +278,7 @@ led-ok : (a b : Stands) (p : Store) (batch : Batch) (q : Asking) (rs : List Repl
 led-ok a b p batch q rs got reading path gathers ready =
     let t = if_of_txn batch.at (counted_txn batch (Outcome.Ok rs)) p.txn in
     let l = like-counted batch.at batch (Outcome.Ok rs) p.txn in
-    let at_end = arrive a b (record p { txn = t }) p batch q got reading path (way-known a p batch q t l (knows-counted batch.at batch (Outcome.Ok rs) q.head.txn p.txn) ready) in
+    let at_end = arrive a b (record p { txn = t }) p batch q got reading (no-left a p batch q reading.unlimited ready) path (way-known a p batch q t l (knows-counted batch.at batch (Outcome.Ok rs) q.head.txn p.txn) ready) in
     let answers : Each (IsPlain q.head p) got = subst (Each (IsPlain q.head p)) path.gives at_end.answers in
     let same = finished-nothing q.head q.head.txn p.cells in
     record {
@@ -304,13 +323,14 @@ stamped-head s t b q h = sym (ap txn_in h)
 
 never-committed : (a b : Stands) (p : Store) (batch : Batch) (q : Asking) (got : List Accepted) (f : Failure) → IsReading batch q → (path : Path q a b got) → Ready a p batch q → q.head.txn ≡ None → LastFails f path.added → ⊥
 never-committed a b p batch q got f reading path ready alone last =
+    let free = no-left a p batch q reading.unlimited ready in
     let step = Stepped (Send last.node last.piece (Failed f)) ∷ [] in
     let cut = runs-cut a.world b.world last.before step (subst (λ hs. Runs a.world hs b.world) last.last path.runs) in
     let high = each-left (IsHigh a.floor) last.before step (subst (Each (IsHigh a.floor)) last.last path.high) in
     let of = subst (Each (IsOf q)) last.last path.of in
     let here = (each-right (IsOf q) last.before step of).0 in
-    let at = course q a.floor last.before a.world cut.0 p p (each-read q.items reading.reads) high (each-left (IsOf q) last.before step of) cut.1 (way-known a p batch q p.txn (like-itself p.txn) (λ k. k) ready) in
-    let stops = reads-fail cut.0 last.node last.piece f (cuts-read last.piece.items q.items (each-read q.items reading.reads) here.cuts) (told cut.0 (Send last.node last.piece (Failed f)) cut.2.0 cut.2.1).0 in
+    let at = course q a.floor last.before a.world cut.0 p p (each-read q.items reading.reads) free high (each-left (IsOf q) last.before step of) cut.1 (way-known a p batch q p.txn (like-itself p.txn) (λ k. k) ready) in
+    let stops = reads-fail cut.0 last.node last.piece f (no-limit q last.piece free here) (cuts-read last.piece.items q.items (each-read q.items reading.reads) here.cuts) (told cut.0 (Send last.node last.piece (Failed f)) cut.2.0 cut.2.1).0 in
     none_some f (sym (nothing-stops cut.0 last.piece at.stands.named (ap txn_of here.head ∙ ap txn_number alone)) ∙ stops)
 
 doubt-by : (at : Option Stamp) (a b : Stands) (p : Store) (batch : Batch) (q : Asking) (lost : ℕ) (got : List Accepted) → batch.at ≡ at → IsReading batch q → (path : Path q a b got) → Ready a p batch q → LastFails Failure.Committed path.added → LeadsTo a b p batch (Outcome.Ambiguous lost)

@@ -2,14 +2,19 @@
 use Rattle.std.proofs.Common.{◌≡◌, ℕ, ◌<◌, true, false, cond, ◌==◌, List, [], ◌∷◌, Option, Some, None, inl, inr, refl, sym, ap, ◌∙◌, subst, eq-eqb, ne_eqb, arith}
 use Rattle.std.specs.List.{find}
 use Rattle.ds_base.specs.declared.value.TxnNo.{TxnNo}
+use Rattle.ds_base.proofs.SmallFacts.{none_some}
+use Rattle.ds_kind.specs.Parts.{requests_of}
+use Rattle.ds_kind.specs.declared.batch.Piece.{Piece}
+use Rattle.ds_kind.specs.declared.reply.Failure.TheVariants as Failure
 use Rattle.ds_cell.specs.Content.{AllAbove, Rises}
 use Rattle.ds_cell.specs.Seen.{last_of}
 use Rattle.ds_cell.specs.Store.{StoreTxn, Mode, Live, FailedSince, Unknown, OverWith, Fate, Pending, Committed, Aborted}
 use Rattle.ds_rule.specs.declared.record.TxnRecord.{TxnRecord}
 use Rattle.ds_rule.specs.Asking.{txn_number}
-use Rattle.ds_rule.specs.Deliver.{status_stops}
+use Rattle.ds_rule.specs.declared.record.RecordStatus.TheVariants as Status
+use Rattle.ds_rule.specs.Deliver.{is_rollback, status_stops, stops_as}
 use Rattle.ds_rule.specs.Plain.{is_pending}
-use Rattle.ds_rule.specs.StandsFor.{HasRecord, HasRecordOf, IsKnown, IsWho, Knows, record_for, record_number}
+use Rattle.ds_rule.specs.StandsFor.{HasRecord, HasRecordOf, IsKnown, IsWho, Knows, record_for, record_number, status_for}
 use Rattle.ds_rule.proofs.Lasts.{last-cases}
 
 above-last : (n : ℕ) (ts : List TxnRecord) (x : TxnRecord) → AllAbove record_number n ts → last_of ts ≡ Some x → n < record_number x
@@ -42,15 +47,15 @@ known-last (FailedSince n) t rs k h = h
 known-last (Unknown ws) t rs k h = absurd k
 known-last (OverWith s) t rs k h = h
 
-free-fate : (t : StoreTxn) (f : Fate) → t.fate ≡ f → status_stops (Some (record_for t)) ≡ None → is_pending f ≡ true
-free-fate t Pending e h = refl
-free-fate t Committed e h = let stops = ap (λ f. status_stops (Some (record_for (record t { fate = f })))) e in cc
-free-fate t Aborted e h = let stops = ap (λ f. status_stops (Some (record_for (record t { fate = f })))) e in cc
+free-fate : (t : StoreTxn) (f : Fate) (p : Piece) → t.fate ≡ f → is_rollback (requests_of p.items) ≡ false → status_stops (Some (record_for t)) p ≡ None → is_pending f ≡ true
+free-fate t Pending p e other h = refl
+free-fate t Committed p e other h = absurd (none_some Failure.Committed (sym h ∙ ap (λ f. stops_as (status_for f) (is_rollback (requests_of p.items))) e))
+free-fate t Aborted p e other h = absurd (none_some Failure.Aborted (sym h ∙ ap (λ f. stops_as (status_for f) (is_rollback (requests_of p.items))) e ∙ ap (stops_as Status.Aborted) other))
 
--- a record that takes pieces is pending
-pub pends : (n : Option TxnNo) (o : Option StoreTxn) (rs : List TxnRecord) → IsWho n o → Knows n o → HasRecordOf o rs → Rises record_number rs → status_stops (find (λ t. t.txn.0 == txn_number n) rs) ≡ None → Pends n o
-pends None o rs who known has rise free = tt
-pends (Some n) None rs who known has rise free = who
-pends (Some n) (Some t) rs who known has rise free =
-    free-fate t t.fate refl
-    (sym (ap status_stops (ap (λ k. find (λ u. u.txn.0 == k) rs) who ∙ find-last rs (record_for t) rise (known-last t.mode t rs known has))) ∙ free)
+-- a record that takes a piece that is no rollback is pending
+pub pends : (n : Option TxnNo) (o : Option StoreTxn) (rs : List TxnRecord) (p : Piece) → IsWho n o → Knows n o → HasRecordOf o rs → Rises record_number rs → is_rollback (requests_of p.items) ≡ false → status_stops (find (λ t. t.txn.0 == txn_number n) rs) p ≡ None → Pends n o
+pends None o rs p who known has rise other free = tt
+pends (Some n) None rs p who known has rise other free = who
+pends (Some n) (Some t) rs p who known has rise other free =
+    free-fate t t.fate p refl other
+    (sym (ap (λ o. status_stops o p) (ap (λ k. find (λ u. u.txn.0 == k) rs) who ∙ find-last rs (record_for t) rise (known-last t.mode t rs known has))) ∙ free)

@@ -54,7 +54,7 @@ free-put : (n m : Type 0) (t : Bool) (c d : Content) → (t ≡ true → n → m
 free-put n m true c d to here waits owner other = record { none_waits = waits; intent = inr (owner, to refl here) }
 free-put n m false c d to here waits owner other = other
 
-frees-kept : (h : Head) (N : List ℕ → Type 0) → txn_of h ≡ 0 → IsKept h N (Frees N)
+pub frees-kept : (h : Head) (N : List ℕ → Type 0) → txn_of h ≡ 0 → IsKept h N (Frees N)
 frees-kept h N none k n w cells here free = (
   ascends-insert k _ cells free.0,
   λ q.
@@ -80,7 +80,7 @@ settled-clear n commit c free =
       | None ↦ λ e. record { none = free-history n c free (none-last (held 0 c) e); none_waits = free.none_waits }
     ] refl
 
-clear-free : (n : Type 0) (c : Content) → IsClear c → IsFree n c
+pub clear-free : (n : Type 0) (c : Content) → IsClear c → IsFree n c
 clear-free n c clear = record { none_waits = clear.none_waits; intent = inl clear.none }
 
 free-later : (k q : List ℕ) (ws : List WriteAt) (w : WriteAt) (c : Content) → w.key ≡ k → key_eq k q ≡ false → IsFree (Named q (w ∷ ws)) c → IsFree (Named q ws) c

@@ -1,7 +1,6 @@
 -- A world stays steady at each line that is built, and in it no routed piece is refused.
-use Rattle.std.proofs.Common.{◌≡◌, ℕ, ◌+◌, ◌<◌, ◌⊎◌, Bool, true, false, not, cond, ◌&&◌, ◌||◌, ◌==◌, List, [], ◌∷◌, ◌++◌, map, take, reverse, Option, Some, None, inl, inr, refl, sym, ap, ◌∙◌, subst, eq-eqb, ne_eqb, arith}
+use Rattle.std.proofs.Common.{◌≡◌, ℕ, ◌+◌, ◌<◌, Bool, true, false, not, cond, ◌&&◌, ◌||◌, ◌==◌, List, [], ◌∷◌, map, take, Option, Some, None, inl, inr, refl, sym, ap, ◌∙◌, subst, eq-eqb, ne_eqb, arith}
 use Rattle.std.specs.List.{find, list_any, list_all}
-use Rattle.std.proofs.lemmas.Grind.{reverse_onto}
 use Rattle.ds_base.specs.declared.value.Dir.{Dir}
 use Rattle.ds_base.specs.declared.value.Dir.TheVariants.{Forward, Reverse}
 use Rattle.ds_base.specs.declared.value.Stamp.{Stamp}
@@ -25,7 +24,7 @@ use Rattle.ds_rule.specs.Asking.{Made, Gives, Fails}
 use Rattle.ds_rule.specs.Begin.{first_world, is_leased}
 use Rattle.ds_rule.specs.Cause.{UsedUp, refused_in, lost_in}
 use Rattle.ds_rule.specs.Close.{closed, settle_by, with_begin}
-use Rattle.ds_rule.specs.Deliver.{Stop, Turned, answer_at, answer_made, deliver_answer, deliver_answer_to, deliver_world, deliver_world_to, ends, holds_item, mismatch_rows, served, stops, world_at, world_made}
+use Rattle.ds_rule.specs.Deliver.{Turned, answer_at, answer_made, deliver_answer, deliver_answer_to, deliver_world, ends, holds_item, mismatch_rows, served, stops}
 use Rattle.ds_rule.specs.Journal.{Happening, Moved, Did, Runs}
 use Rattle.ds_rule.specs.Law.{IsQuiet}
 use Rattle.ds_rule.specs.Moves.{moved}
@@ -34,9 +33,13 @@ use Rattle.ds_rule.specs.Pieces.{Each, IsOneOf}
 use Rattle.ds_rule.specs.Steady.{Steady, has_lease, ids_differ, infos_in}
 use Rattle.ds_rule.specs.World.{World, Range, from_first, in_order, look_rows, look_world, rows_at, without_first, has_id, holds_key, replaced}
 use Rattle.ds_world.proofs.First.{first-ids, first-leases}
+use Rattle.ds_rule.proofs.Eachs.{of-reverse}
 use Rattle.ds_rule.proofs.Passing.{told}
 use Rattle.ds_law.proofs.Failing.{status_of}
 use Rattle.ds_law.proofs.Lifetime.{settled-infos}
+use Rattle.ds_rule.specs.Keeping.{Keeps}
+use Rattle.ds_world.proofs.Delivers.{deliver-keeps, deliver-leaves}
+use Rattle.ds_world.proofs.Stretches.{keeps-same}
 
 -- at first
 
@@ -78,45 +81,36 @@ close-steady w st = still-steady w (closed w) (closed-infos _ w.ranges) st.curre
 look-steady : (w : World) (k : List ℕ) (d : Dir) → Steady w → Steady (look_world w k d)
 look-steady w k d st = still-steady w (look_world w k d) refl (ap (without_first _) st.current) st
 
-made-steady : (w : World) (p : Piece) (m : Made) → Steady w → Steady (world_made w p m)
-made-steady w p (Fails f) st = st
-made-steady w p (Gives cells ws rs) st = still-steady w (world_made w p (Gives cells ws rs)) (same-infos (has_id p.range) _ w.ranges) st.current st
+-- what every world keeps is what a steady one wants, but for armed rows
+abbrev pub Both : World → Type 0
+Both w = Keeps w × Steady w
 
-at-steady : (w : World) (p : Piece) (r : Range) (o : Option Stop) → Steady w → Steady (world_at w p r o)
-at-steady w p r (Some s) st = st
-at-steady w p r None st = made-steady w p (served p r) st
+pub keeps-steady : (w : World) → Keeps w → w.armed ≡ [] → Steady w
+keeps-steady w k none = record { current = none; ids = k.ids; leases = k.leases }
 
-to-steady : (w : World) (n : ℕ) (p : Piece) (o : Option Range) → Steady w → Steady (deliver_world_to w n p o)
-to-steady w n p None st = st
-to-steady w n p (Some r) st = at-steady w p r (stops w n p r) st
+look-both : (w : World) (k : List ℕ) (d : Dir) → Both w → Both (look_world w k d)
+look-both w k d both = (keeps-same w (look_world w k d) refl refl both.0, look-steady w k d both.1)
 
-deliver-steady : (w : World) (n : ℕ) (p : Piece) → Steady w → Steady (deliver_world w n p)
-deliver-steady w n p st = to-steady w n p (find (has_id p.range) w.ranges) st
+deliver-both : (w : World) (n : ℕ) (p : Piece) → Both w → Both (deliver_world w n p)
+deliver-both w n p both =
+    let keeps = deliver-keeps n p w both.0 in
+    (keeps, keeps-steady (deliver_world w n p) keeps (deliver-leaves (λ v. v.armed) (λ id cells v. refl) (λ ts v. refl) (λ k v. refl) (λ k m v. refl) w n p ∙ both.1.current))
 
 -- and so a call that meets nothing but its own steps
-pub quiet-steady : (hs : List Happening) (w v : World) → Each IsQuiet hs → Runs w hs v → Steady w → Steady v
-quiet-steady [] w v quiet r st = subst Steady (sym r) st
-quiet-steady (Moved e ∷ hs) w v quiet r st = absurd quiet.0
-quiet-steady (Did (Look k d (Looked.Rows infos)) ∷ hs) w v quiet r st = quiet-steady hs r.0 v quiet.1 r.2 (subst Steady (sym (told w (Look k d (Looked.Rows infos)) r.0 r.1).1) (look-steady w k d st))
-quiet-steady (Did (Look k d Looked.Lost) ∷ hs) w v quiet r st = absurd (quiet.0 tt)
-quiet-steady (Did (Send n p (Done rs)) ∷ hs) w v quiet r st = quiet-steady hs r.0 v quiet.1 r.2 (subst Steady (sym (told w (Send n p (Done rs)) r.0 r.1).1) (deliver-steady w n p st))
-quiet-steady (Did (Send n p (Failed f)) ∷ hs) w v quiet r st = quiet-steady hs r.0 v quiet.1 r.2 (subst Steady (sym (told w (Send n p (Failed f)) r.0 r.1).1) (deliver-steady w n p st))
-quiet-steady (Did (Send n p (Refused f)) ∷ hs) w v quiet r st = quiet-steady hs r.0 v quiet.1 r.2 (subst Steady (sym (told w (Send n p (Refused f)) r.0 r.1).1) (deliver-steady w n p st))
-quiet-steady (Did (Send n p Lost) ∷ hs) w v quiet r st = absurd (quiet.0 tt)
+quiet-both : (hs : List Happening) (w v : World) → Each IsQuiet hs → Runs w hs v → Both w → Both v
+quiet-both [] w v quiet r st = subst Both (sym r) st
+quiet-both (Moved e ∷ hs) w v quiet r st = absurd quiet.0
+quiet-both (Did (Look k d (Looked.Rows infos)) ∷ hs) w v quiet r st = quiet-both hs r.0 v quiet.1 r.2 (subst Both (sym (told w (Look k d (Looked.Rows infos)) r.0 r.1).1) (look-both w k d st))
+quiet-both (Did (Look k d Looked.Lost) ∷ hs) w v quiet r st = absurd (quiet.0 tt)
+quiet-both (Did (Send n p (Done rs)) ∷ hs) w v quiet r st = quiet-both hs r.0 v quiet.1 r.2 (subst Both (sym (told w (Send n p (Done rs)) r.0 r.1).1) (deliver-both w n p st))
+quiet-both (Did (Send n p (Failed f)) ∷ hs) w v quiet r st = quiet-both hs r.0 v quiet.1 r.2 (subst Both (sym (told w (Send n p (Failed f)) r.0 r.1).1) (deliver-both w n p st))
+quiet-both (Did (Send n p (Refused f)) ∷ hs) w v quiet r st = quiet-both hs r.0 v quiet.1 r.2 (subst Both (sym (told w (Send n p (Refused f)) r.0 r.1).1) (deliver-both w n p st))
+quiet-both (Did (Send n p Lost) ∷ hs) w v quiet r st = absurd (quiet.0 tt)
+
+pub quiet-steady : (hs : List Happening) (w v : World) → Each IsQuiet hs → Runs w hs v → Keeps w → Steady w → Steady v
+quiet-steady hs w v quiet r keeps st = (quiet-both hs w v quiet r (keeps, st)).1
 
 -- a lookup's first row is of a range
-
-of-append : {X : Type 0} (x : X) (xs ys : List X) → IsOneOf x (xs ++ ys) → IsOneOf x xs ⊎ IsOneOf x ys
-of-append x [] ys h = inr h
-of-append x (y ∷ xs) ys (inl same) = inl (inl same)
-of-append x (y ∷ xs) ys (inr more) = elim (of-append x xs ys more) [ inl l ↦ inl (inr l) | inr r ↦ inr r ]
-
-of-reverse : {X : Type 0} (x : X) (xs : List X) → IsOneOf x (reverse xs) → IsOneOf x xs
-of-reverse x [] h = h
-of-reverse x (y ∷ ys) h = elim (of-append x (reverse ys) (y ∷ []) (subst (IsOneOf x) (reverse_onto ys y []) h)) [
-  | inl l ↦ inr (of-reverse x ys l)
-  | inr r ↦ elim r [ inl same ↦ inl same | inr none ↦ absurd none ]
-]
 
 of-order : (d : Dir) (r : Range) (rs : List Range) → IsOneOf r (in_order d rs) → IsOneOf r rs
 of-order Forward r rs h = h
@@ -207,7 +201,7 @@ made-answers (Gives cells ws rs) f h = cc
 made-answers (Fails g) f h = cc
 
 ends-answers : (w : World) (p : Piece) (r : Range) (o : Option Failure) (f : Refusal) → Refused f ≡ answer_at w p r (ends o) → ⊥
-ends-answers w p r None f h = made-answers (served p r) f h
+ends-answers w p r None f h = made-answers (served w p r) f h
 ends-answers w p r (Some g) f h = cc
 
 pub not-refused : (w : World) (i : Info) (n : ℕ) (p : Piece) (f : Refusal) → Steady w → IsOneOf i (infos_in w) → GoesTo i n p → Refused f ≡ deliver_answer w n p → ⊥
@@ -239,24 +233,24 @@ refused-never : (w : World) (route : Option Info) (n : ℕ) (p : Piece) (f : Ref
 refused-never w None n p f st found goes h = goes
 refused-never w (Some i) n p f st found goes h = not-refused w i n p f st found goes h
 
-pub all-taken : (hs : List Happening) (route : Option Info) (w v : World) → Steady w → IsFound route w → AreRouted route hs → Each IsQuiet hs → Runs w hs v → AllTaken hs
+pub all-taken : (hs : List Happening) (route : Option Info) (w v : World) → Both w → IsFound route w → AreRouted route hs → Each IsQuiet hs → Runs w hs v → AllTaken hs
 all-taken [] route w v st found routed quiet r = record { refusals = refl; losses = refl }
 all-taken (Moved e ∷ hs) route w v st found routed quiet r = absurd quiet.0
 all-taken (Did (Look k d (Looked.Rows infos)) ∷ hs) route w v st found routed quiet r =
     let after : r.0 ≡ look_world w k d = (told w (Look k d (Looked.Rows infos)) r.0 r.1).1 in
-    let more = all-taken hs (route_by (Look k d (Looked.Rows infos))) r.0 v (subst Steady (sym after) (look-steady w k d st)) (subst (IsFound (route_by (Look k d (Looked.Rows infos)))) (sym after) (found-by w k d infos st (told w (Look k d (Looked.Rows infos)) r.0 r.1).0)) routed.1 quiet.1 r.2 in
+    let more = all-taken hs (route_by (Look k d (Looked.Rows infos))) r.0 v (subst Both (sym after) (look-both w k d st)) (subst (IsFound (route_by (Look k d (Looked.Rows infos)))) (sym after) (found-by w k d infos st.1 (told w (Look k d (Looked.Rows infos)) r.0 r.1).0)) routed.1 quiet.1 r.2 in
     let sums = one-taken hs _ _ more refl refl in
     record { refusals = sums.0; losses = sums.1 }
 all-taken (Did (Look k d Looked.Lost) ∷ hs) route w v st found routed quiet r = absurd (quiet.0 tt)
 all-taken (Did (Send n p (Done rs)) ∷ hs) route w v st found routed quiet r =
-    let more = all-taken hs None r.0 v (subst Steady (sym (told w (Send n p (Done rs)) r.0 r.1).1) (deliver-steady w n p st)) tt routed.1 quiet.1 r.2 in
+    let more = all-taken hs None r.0 v (subst Both (sym (told w (Send n p (Done rs)) r.0 r.1).1) (deliver-both w n p st)) tt routed.1 quiet.1 r.2 in
     let sums = one-taken hs _ _ more refl refl in
     record { refusals = sums.0; losses = sums.1 }
 all-taken (Did (Send n p (Failed f)) ∷ hs) route w v st found routed quiet r =
-    let more = all-taken hs None r.0 v (subst Steady (sym (told w (Send n p (Failed f)) r.0 r.1).1) (deliver-steady w n p st)) tt routed.1 quiet.1 r.2 in
+    let more = all-taken hs None r.0 v (subst Both (sym (told w (Send n p (Failed f)) r.0 r.1).1) (deliver-both w n p st)) tt routed.1 quiet.1 r.2 in
     let sums = one-taken hs _ _ more refl refl in
     record { refusals = sums.0; losses = sums.1 }
-all-taken (Did (Send n p (Refused f)) ∷ hs) route w v st found routed quiet r = absurd (refused-never w route n p f st found routed.0 (told w (Send n p (Refused f)) r.0 r.1).0)
+all-taken (Did (Send n p (Refused f)) ∷ hs) route w v st found routed quiet r = absurd (refused-never w route n p f st.1 found routed.0 (told w (Send n p (Refused f)) r.0 r.1).0)
 all-taken (Did (Send n p Lost) ∷ hs) route w v st found routed quiet r = absurd (quiet.0 tt)
 
 -- a budget of some tries is never used up where none is spent

@@ -4,7 +4,7 @@ use Rattle.std.specs.List.{find}
 use Rattle.ds_base.specs.declared.value.Dir.{Dir}
 use Rattle.ds_base.specs.declared.value.TxnNo.{TxnNo}
 use Rattle.ds_kind.specs.Asks.{is_get_or_scan}
-use Rattle.ds_kind.specs.Request.{cut_to}
+use Rattle.ds_kind.specs.Request.{cut_to, span_of}
 use Rattle.ds_kind.specs.declared.batch.Head.{Head}
 use Rattle.ds_kind.specs.declared.batch.Item.{Item}
 use Rattle.ds_kind.specs.declared.batch.Piece.{Piece}
@@ -15,7 +15,7 @@ use Rattle.ds_cell.specs.Ask.{Cells}
 use Rattle.ds_cell.specs.Replies.{body_of}
 use Rattle.ds_cell.specs.Store.{Store}
 use Rattle.ds_rule.specs.Asking.{Gives, ask_all, ask_item, made_by, and_then, and_before, at_of, committed_by}
-use Rattle.ds_rule.specs.Deliver.{Stop, stops, served, deliver_world, deliver_world_to, world_at, world_made, with_cells}
+use Rattle.ds_rule.specs.Deliver.{Stop, stops, served, deliver_world, deliver_world_to, world_at, world_made, with_cells, all_done, done_by, done_unless, is_rollback}
 use Rattle.ds_rule.specs.Journal.{Accepted, pairs}
 use Rattle.ds_rule.specs.Pieces.{Each, IsOneOf, IsCut}
 use Rattle.ds_rule.specs.StandsFor.{StandsFor}
@@ -23,6 +23,10 @@ use Rattle.ds_rule.specs.World.{World, Range, contents, has_id, replaced, look_w
 use Rattle.ds_world.proofs.Stretches.{keeps-same}
 use Rattle.ds_law.proofs.Reading.{reads-give, read_bits}
 use Rattle.ds_law.proofs.Standing.{stands-left}
+use Rattle.ds_base.specs.Order.{Extent}
+use Rattle.ds_kind.specs.Parts.{requests_of}
+use Rattle.ds_rule.specs.declared.record.TxnRecord.{TxnRecord}
+use Rattle.ds_rule.specs.Serve.{and_left, resolved_for, resolves, serve}
 
 -- every request only reads
 abbrev pub IsRead : Item → Type 0
@@ -44,6 +48,82 @@ pub all-read : (h : Head) (items : List Item) (cells : Cells) → Each IsRead it
 all-read h [] cells r = refl
 all-read h (i ∷ is) cells r =
     ap (λ m. and_then m (ask_all h is)) (item-reads h i cells r.0) ∙ ap (and_before [] (reply_of h cells i ∷ [])) (all-read h is cells r.1)
+
+-- and they resolve nothing, do nothing, and are no rollback
+
+read-resolves : (r : Request) → is_get_or_scan r ≡ true → resolves r ≡ None
+read-resolves (Get a) h = refl
+read-resolves (Scan a) h = refl
+read-resolves (ReverseScan a) h = refl
+read-resolves (Put a) h = refl
+read-resolves (ConditionalPut a) h = refl
+read-resolves (InitPut a) h = refl
+read-resolves (Increment a) h = refl
+read-resolves (Delete a) h = refl
+read-resolves (DeleteRange a) h = refl
+read-resolves (EndTxn a) h = refl
+read-resolves (QueryIntent a) h = refl
+read-resolves (ResolveIntent a) h = cc
+read-resolves (ResolveIntentRange a) h = cc
+read-resolves (AdminSplit a) h = refl
+read-resolves (AdminTransferLease a) h = refl
+
+read-does : (h : Head) (r : Request) (w : World) → is_get_or_scan r ≡ true → done_by h r w ≡ w
+read-does h (Get a) w read = refl
+read-does h (Scan a) w read = refl
+read-does h (ReverseScan a) w read = refl
+read-does h (Put a) w read = refl
+read-does h (ConditionalPut a) w read = refl
+read-does h (InitPut a) w read = refl
+read-does h (Increment a) w read = refl
+read-does h (Delete a) w read = refl
+read-does h (DeleteRange a) w read = refl
+read-does h (EndTxn a) w read = cc
+read-does h (QueryIntent a) w read = refl
+read-does h (ResolveIntent a) w read = refl
+read-does h (ResolveIntentRange a) w read = refl
+read-does h (AdminSplit a) w read = cc
+read-does h (AdminTransferLease a) w read = cc
+
+read-first : (r : Request) (rs : List Request) → is_get_or_scan r ≡ true → is_rollback (r ∷ rs) ≡ false
+read-first (Get a) rs read = refl
+read-first (Scan a) rs read = refl
+read-first (ReverseScan a) rs read = refl
+read-first (Put a) rs read = refl
+read-first (ConditionalPut a) rs read = refl
+read-first (InitPut a) rs read = refl
+read-first (Increment a) rs read = refl
+read-first (Delete a) rs read = refl
+read-first (DeleteRange a) rs read = refl
+read-first (EndTxn a) rs read = cc
+read-first (QueryIntent a) rs read = refl
+read-first (ResolveIntent a) rs read = refl
+read-first (ResolveIntentRange a) rs read = refl
+read-first (AdminSplit a) rs read = refl
+read-first (AdminTransferLease a) rs read = refl
+
+pub reads-no-rollback : (items : List Item) → Each IsRead items → is_rollback (requests_of items) ≡ false
+reads-no-rollback [] read = refl
+reads-no-rollback (i ∷ is) read = read-first i.request (requests_of is) read.0
+
+pub serve-reads : (ts : List TxnRecord) (h : Head) (items : List Item) (cells : Cells) → Each IsRead items → serve ts h None items cells ≡ Gives cells [] (map (reply_of h cells) items)
+serve-reads ts h [] cells r = refl
+serve-reads ts h (i ∷ is) cells r =
+    ap (λ m. and_left ts None i.request m (λ rest now. serve ts h rest is now)) (item-reads h i cells r.0)
+    ∙ ap (λ o. and_before [] (reply_of h cells i ∷ []) (serve ts h None is (resolved_for ts (span_of i.request) o cells))) (read-resolves i.request r.0)
+    ∙ ap (and_before [] (reply_of h cells i ∷ [])) (serve-reads ts h is cells r.1)
+
+pub served-reads : (w : World) (p : Piece) (r : Range) → p.head.left ≡ None → Each IsRead p.items → served w p r ≡ Gives r.cells [] (map (reply_of p.head r.cells) p.items)
+served-reads w p r free read = ap (λ o. serve w.records p.head o p.items r.cells) free ∙ serve-reads w.records p.head p.items r.cells read
+
+unless-reads : (o : Option Extent) (h : Head) (i : Item) (w : World) → IsRead i → done_unless o h i.request w ≡ w
+unless-reads None h i w read = read-does h i.request w read
+unless-reads (Some rest) h i w read = refl
+
+done-reads : (h : Head) (items : List Item) (rs : List Reply) (w : World) → Each IsRead items → all_done h items rs w ≡ w
+done-reads h [] rs w read = refl
+done-reads h (i ∷ is) [] w read = refl
+done-reads h (i ∷ is) (r ∷ rs) w read = ap (all_done h is rs) (unless-reads r.resume h i w read.0) ∙ done-reads h is rs w read.1
 
 pairs-true : (h : Head) (items : List Item) (cells : Cells) → Each (IsTrue h cells) (pairs h items (map (reply_of h cells) items))
 pairs-true h [] cells = tt
@@ -95,21 +175,22 @@ replaced-same p (r ∷ rs) q h =
 same-world : (w : World) (rs : List Range) → rs ≡ w.ranges → record w { ranges = rs } ≡ w
 same-world w rs h = ap (λ rs. record w { ranges = rs }) h
 
-made-world : (w : World) (p : Piece) (r : Range) → find (has_id p.range) w.ranges ≡ Some r → Each IsRead p.items → world_made w p (served p r) ≡ w
-made-world w p r found read =
-    ap (world_made w p) (all-read p.head p.items r.cells read)
+made-world : (w : World) (p : Piece) (r : Range) → find (has_id p.range) w.ranges ≡ Some r → p.head.left ≡ None → Each IsRead p.items → world_made w p (served w p r) ≡ w
+made-world w p r found free read =
+    ap (world_made w p) (served-reads w p r free read)
+    ∙ done-reads p.head p.items (map (reply_of p.head r.cells) p.items) _ read
     ∙ ap (λ cells. with_cells p.range cells w) (finished-nothing p.head p.head.txn r.cells)
     ∙ same-world w _ (replaced-same (has_id p.range) w.ranges r found)
 
-at-world : (w : World) (p : Piece) (r : Range) (o : Option Stop) → find (has_id p.range) w.ranges ≡ Some r → Each IsRead p.items → world_at w p r o ≡ w
-at-world w p r (Some s) found read = refl
-at-world w p r None found read = made-world w p r found read
+at-world : (w : World) (p : Piece) (r : Range) (o : Option Stop) → find (has_id p.range) w.ranges ≡ Some r → p.head.left ≡ None → Each IsRead p.items → world_at w p r o ≡ w
+at-world w p r (Some s) found free read = refl
+at-world w p r None found free read = made-world w p r found free read
 
-pub reads-stay : (w : World) (node : ℕ) (p : Piece) → Each IsRead p.items → deliver_world w node p ≡ w
-reads-stay w node p read =
+pub reads-stay : (w : World) (node : ℕ) (p : Piece) → p.head.left ≡ None → Each IsRead p.items → deliver_world w node p ≡ w
+reads-stay w node p free read =
     elim (find (has_id p.range) w.ranges) as (λ o. find (has_id p.range) w.ranges ≡ o → deliver_world_to w node p o ≡ w) [
       | None ↦ λ e. refl
-      | Some r ↦ λ e. at-world w p r (stops w node p r) e read
+      | Some r ↦ λ e. at-world w p r (stops w node p r) e free read
     ] refl
 
 -- the ranges, the descriptors, the records and the late copies are the same

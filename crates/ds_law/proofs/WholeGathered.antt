@@ -1,5 +1,5 @@
 -- What a batch that was served in one piece gathers.
-use Rattle.std.proofs.Common.{◌≡◌, ℕ, ◌<◌, true, cond, List, [], ◌∷◌, ◌++◌, None, refl, sym, ap, ◌∙◌, subst, append_assoc, eq-eqb, ne_eqb, arith}
+use Rattle.std.proofs.Common.{◌≡◌, ℕ, ◌<◌, true, cond, List, [], ◌∷◌, ◌++◌, None, refl, sym, ap, ◌∙◌, subst, append_assoc, eq-eqb, ne_eqb, arith, Option}
 use Rattle.std.specs.List.{list_all}
 use Rattle.ds_base.proofs.SmallFacts.{append_nil}
 use Rattle.ds_base.specs.Order.{key_lt}
@@ -23,7 +23,7 @@ use Rattle.ds_cell.specs.Requests.{ask_request}
 use Rattle.ds_cell.specs.Store.{WriteAt}
 use Rattle.ds_rule.specs.declared.answer.Answer.TheVariants.{Done, Failed, Refused, Lost}
 use Rattle.ds_rule.specs.declared.journal.JournalStep.TheVariants.{Look, Send}
-use Rattle.ds_rule.specs.Asking.{Asking, Made, Gives, Fails, ask_all, made_by, and_then, and_before, at_of}
+use Rattle.ds_rule.specs.Asking.{Asking, Made, Gives, Fails, made_by, and_before, at_of}
 use Rattle.ds_rule.specs.Cause.{IsIdle, IsWholeOf, LastServes}
 use Rattle.ds_rule.specs.Clauses.{Stands}
 use Rattle.ds_rule.specs.Gathered.{at_position, by_start, IsBody, Joins, IsGathered, Gathered}
@@ -35,6 +35,8 @@ use Rattle.ds_law.proofs.Gathering.{IsBelowPosition, at-append, at-none, join-no
 use Rattle.ds_rule.proofs.Passing.{told}
 use Rattle.ds_rule.proofs.Service.{service}
 use Rattle.ds_law.proofs.Trips.{accepted-append}
+use Rattle.ds_rule.specs.Serve.{and_left, serve}
+use Rattle.ds_rule.specs.declared.record.TxnRecord.{TxnRecord}
 
 -- one reply for each request, of its kind and whole
 
@@ -55,15 +57,15 @@ answers-before : (i : Item) (is : List Item) (ws : List WriteAt) (r : Reply) (m 
 answers-before i is ws r (Gives c us qs) cells vs rs kind later h = subst (Answers (i ∷ is)) (replies-same _ _ _ _ (r ∷ qs) rs h) (kind, later c us qs refl)
 answers-before i is ws r (Fails f) cells vs rs kind later h = cc
 
-answers-made : (h : Head) (i : Item) (is : List Item) (a : Asked) (now : Cells) (next : Cells → Made) (cells : Cells) (vs : List WriteAt) (rs : List Reply) → ((n c : Cells) (us : List WriteAt) (qs : List Reply) → next n ≡ Gives c us qs → Answers is qs) → and_then (made_by h i a now) next ≡ Gives cells vs rs → Answers (i ∷ is) rs
-answers-made h i is (Refuses k f) now next cells vs rs later g = cc
-answers-made h i is (Gave bits ws) now next cells vs rs later g =
-    answers-before i is _ _ (next _) cells vs rs (record { whole = refl; kind = record { bits = bits; is = refl } }) (λ c us qs e. later _ c us qs e) g
+answers-made : (ts : List TxnRecord) (h : Head) (i : Item) (is : List Item) (a : Asked) (now : Cells) (next : Option ℕ → Cells → Made) (cells : Cells) (vs : List WriteAt) (rs : List Reply) → ((n c : Cells) (us : List WriteAt) (qs : List Reply) → next None n ≡ Gives c us qs → Answers is qs) → and_left ts None i.request (made_by h i a now) next ≡ Gives cells vs rs → Answers (i ∷ is) rs
+answers-made ts h i is (Refuses k f) now next cells vs rs later g = cc
+answers-made ts h i is (Gave bits ws) now next cells vs rs later g =
+    answers-before i is _ _ (next None _) cells vs rs (record { whole = refl; kind = record { bits = bits; is = refl } }) (λ c us qs e. later _ c us qs e) g
 
-pub asked-all : (h : Head) (items : List Item) (now cells : Cells) (vs : List WriteAt) (rs : List Reply) → ask_all h items now ≡ Gives cells vs rs → Answers items rs
-asked-all h [] now cells vs rs g = subst (Answers []) (replies-same _ _ _ _ [] rs g) tt
-asked-all h (i ∷ is) now cells vs rs g =
-    answers-made h i is (ask_request i.request (at_of h i.seq.0) now) now (ask_all h is) cells vs rs (λ n c us qs e. asked-all h is n c us qs e) g
+pub asked-all : (ts : List TxnRecord) (h : Head) (items : List Item) (now cells : Cells) (vs : List WriteAt) (rs : List Reply) → serve ts h None items now ≡ Gives cells vs rs → Answers items rs
+asked-all ts h [] now cells vs rs g = subst (Answers []) (replies-same _ _ _ _ [] rs g) tt
+asked-all ts h (i ∷ is) now cells vs rs g =
+    answers-made ts h i is (ask_request i.request (at_of h i.seq.0) now) now (λ rest now. serve ts h rest is now) cells vs rs (λ n c us qs e. asked-all ts h is n c us qs e) g
 
 -- a request cut to its whole span is itself
 
@@ -154,13 +156,13 @@ idle-accepts (Did (Send n p (Refused r)) ∷ hs) all = idle-accepts hs all.1
 idle-accepts (Did (Send n p Lost) ∷ hs) all = idle-accepts hs all.1
 
 -- the replies of a batch that was served whole, at last, are gathered of it
-pub whole-gathered : (q : Asking) (a b : Stands) (replies : List Reply) (got : List Accepted) (path : Path q a b got) → Rises position_of q.items → list_all has_proper_span (requests_of q.items) ≡ true → Each (IsWholeOf q) path.added → LastServes q replies path.added → Gathered got q.items replies
-whole-gathered q a b replies got path rise proper whole last =
+pub whole-gathered : (q : Asking) (a b : Stands) (replies : List Reply) (got : List Accepted) (path : Path q a b got) → q.head.left ≡ None → Rises position_of q.items → list_all has_proper_span (requests_of q.items) ≡ true → Each (IsWholeOf q) path.added → LastServes q replies path.added → Gathered got q.items replies
+whole-gathered q a b replies got path free rise proper whole last =
     let step = Did (Send last.node last.piece (Done replies)) ∷ [] in
     let cut = runs-cut a.world b.world last.before step (subst (λ hs. Runs a.world hs b.world) last.last path.runs) in
     let s = service cut.0 last.node last.piece replies (told cut.0 (Send last.node last.piece (Done replies)) cut.2.0 cut.2.1).0 in
     let here = (each-right (IsWholeOf q) last.before step (subst (Each (IsWholeOf q)) last.last whole)).0 in
-    let answers : Answers q.items replies = subst (λ is. Answers is replies) here.1 (asked-all last.piece.head last.piece.items s.range.cells s.cells s.writes replies s.gives) in
+    let answers : Answers q.items replies = subst (λ is. Answers is replies) here.1 (asked-all cut.0.records last.piece.head last.piece.items s.range.cells s.cells s.writes replies (ap (λ o. serve cut.0.records last.piece.head o last.piece.items s.range.cells) (sym (ap (λ (h : Head). h.left) here.0 ∙ free)) ∙ s.gives)) in
     let same : pairs q.head q.items replies ≡ got =
     ap (λ h. pairs h q.items replies) (sym here.0)
     ∙ ap (λ is. pairs last.piece.head is replies) (sym here.1)

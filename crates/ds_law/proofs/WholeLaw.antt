@@ -6,7 +6,7 @@ use Rattle.ds_base.specs.declared.value.Stamp.{Stamp}
 use Rattle.ds_base.specs.declared.value.TxnNo.{TxnNo}
 use Rattle.ds_rule.proofs.Eachs.{each-append, each-left, each-right}
 use Rattle.ds_rule.proofs.Passing.{told}
-use Rattle.ds_law.proofs.ReadLaw.{each-read}
+use Rattle.ds_law.proofs.ReadLaw.{each-read, no-left}
 use Rattle.ds_desc.specs.declared.desc.RangeDesc.{RangeDesc}
 use Rattle.ds_kind.specs.declared.batch.Batch.{Batch}
 use Rattle.ds_kind.specs.declared.batch.Head.{Head}
@@ -38,8 +38,9 @@ use Rattle.ds_law.proofs.Failing.{status_of, Why, ByRecord, ByItem, why, reads-f
 use Rattle.ds_law.proofs.Own.{never-of-record}
 use Rattle.ds_law.proofs.Quiet.{quiet-made, idle-stands}
 use Rattle.ds_rule.proofs.Service.{service, held}
-use Rattle.ds_law.proofs.Truth.{IsRead, reply_of, all-read, finished-nothing}
-use Rattle.ds_law.proofs.Writing.{plainly, range-both, alike-fails, Answers, writes-answer}
+use Rattle.ds_law.proofs.Truth.{IsRead, reply_of, all-read, finished-nothing, serve-reads}
+use Rattle.ds_law.proofs.Writing.{plainly, range-both, alike-fails, Answers, writes-answer, plain-served}
+use Rattle.ds_rule.specs.Serve.{serve}
 
 -- a batch with a stamp is of no transaction
 
@@ -87,15 +88,15 @@ free : (q : Asking) (w : World) (p : Store) (n : ℕ) (piece : Piece) (f : Failu
 free q w p n piece f single head st is = none_some f (sym (nothing-stops w piece st.named (ap txn_of head ∙ ap txn_number single)) ∙ is)
 
 -- a piece failed as the store fails
-failing : (q : Asking) (w : World) (p : Store) (n : ℕ) (piece : Piece) (f : Failure) → q.head.txn ≡ None → piece.head ≡ q.head → piece.items ≡ q.items → MayAct p q → StandsFor w p → Failed f ≡ deliver_answer w n piece → ask_all q.head q.items p.cells ≡ Fails f
-failing q w p n piece f single head items (inr reads) st h = absurd (free q w p n piece f single head st (reads-fail w n piece f (pieces-read q piece items reads) h))
-failing q w p n piece f single head items (inl none) st h = by (why w n piece f h)
+failing : (q : Asking) (w : World) (p : Store) (n : ℕ) (piece : Piece) (f : Failure) → q.head.txn ≡ None → q.head.left ≡ None → piece.head ≡ q.head → piece.items ≡ q.items → MayAct p q → StandsFor w p → Failed f ≡ deliver_answer w n piece → ask_all q.head q.items p.cells ≡ Fails f
+failing q w p n piece f single left head items (inr reads) st h = absurd (free q w p n piece f single head st (reads-fail w n piece f (ap (λ (h : Head). h.left) head ∙ left) (pieces-read q piece items reads) h))
+failing q w p n piece f single left head items (inl none) st h = by (why w n piece f h)
   where
     by : Why w n piece f → ask_all q.head q.items p.cells ≡ Fails f
     by (ByRecord is) = absurd (free q w p n piece f single head st is)
     by (ByItem r found goes fails) =
         let fits : list_all (holds_item r) q.items ≡ true = subst (λ z. list_all (holds_item r) z ≡ true) items (held w n piece r goes) in
-        let here : ask_all q.head q.items r.cells ≡ Fails f = sym (ap (λ z. ask_all z piece.items r.cells) head ∙ ap (λ z. ask_all q.head z r.cells) items) ∙ fails in
+        let here : ask_all q.head q.items r.cells ≡ Fails f = sym (plain-served q w p piece r none single left head items st found) ∙ fails in
         alike-fails (start_of r) (end_of r) f (ask_all q.head q.items p.cells)
         (subst (λ m. Alike (start_of r) (end_of r) m (ask_all q.head q.items p.cells)) here
         (all-alike r q.head q.items r.cells p.cells fits (range-both w p (has_id piece.range) r found (plainly w p none st) st)))
@@ -126,11 +127,11 @@ before-last q a b p got path before n piece r last quiet whole idle st =
     }
 
 -- the failure that the last step was answered is the store's
-fails-so : (q : Asking) (a b : Stands) (p : Store) (batch : Batch) (f : Failure) (got : List Accepted) → q.head.txn ≡ None → (path : Path q a b got) → Each IsQuiet path.added → Each (IsWholeOf q) path.added → Each IsIdle path.added → MayAct p q → Ready a p batch q → LastFails f path.added → ask_all q.head q.items p.cells ≡ Fails f
-fails-so q a b p batch f got single path quiet whole idle may ready last =
+fails-so : (q : Asking) (a b : Stands) (p : Store) (batch : Batch) (f : Failure) (got : List Accepted) → batch.limit ≡ None → q.head.txn ≡ None → (path : Path q a b got) → Each IsQuiet path.added → Each (IsWholeOf q) path.added → Each IsIdle path.added → MayAct p q → Ready a p batch q → LastFails f path.added → ask_all q.head q.items p.cells ≡ Fails f
+fails-so q a b p batch f got limit single path quiet whole idle may ready last =
     let step = Stepped (Send last.node last.piece (Failed f)) ∷ [] in
     let at = before-last q a b p got path last.before last.node last.piece (Failed f) last.last quiet whole (each-left IsIdle last.before step (subst (Each IsIdle) last.last idle)) ready.stands in
-    failing q at.world p last.node last.piece f single at.head at.items may at.stands (told at.world (Send last.node last.piece (Failed f)) at.does.0 at.does.1).0
+    failing q at.world p last.node last.piece f single (no-left a p batch q limit ready) at.head at.items may at.stands (told at.world (Send last.node last.piece (Failed f)) at.does.0 at.does.1).0
 
 -- what a quiet call can't be answered
 
@@ -160,15 +161,15 @@ same-replies h p cells (i ∷ is) all =
 gives-replies : (cells out : Cells) (ws : List WriteAt) (rs qs : List Reply) → Gives cells [] rs ≡ Gives out ws qs → rs ≡ qs
 gives-replies cells out ws rs qs h = cc
 
-reads-answer : (q : Asking) (a b : Stands) (p : Store) (batch : Batch) (n : ℕ) (piece : Piece) (rs : List Reply) → Each IsProperRead q.items → Ready a p batch q → Before q a b p n piece (Done rs) → Answers q p rs b.world
-reads-answer q a b p batch n piece rs reads ready at =
+reads-answer : (q : Asking) (a b : Stands) (p : Store) (batch : Batch) (n : ℕ) (piece : Piece) (rs : List Reply) → Each IsProperRead q.items → q.head.left ≡ None → Ready a p batch q → Before q a b p n piece (Done rs) → Answers q p rs b.world
+reads-answer q a b p batch n piece rs reads limit ready at =
     let step = Stepped (Send n piece (Done rs)) ∷ [] in
     let sv = service at.world n piece rs (told at.world (Send n piece (Done rs)) at.does.0 at.does.1).0 in
     let read = each-read q.items reads in
-    let end = course q a.floor step at.world b.world p p read at.high at.of at.does (way-here a at.world p batch q ready at.stands) in
+    let end = course q a.floor step at.world b.world p p read limit at.high at.of at.does (way-here a at.world p batch q ready at.stands) in
     let range : rs ≡ map (reply_of q.head sv.range.cells) q.items =
     sym (gives-replies sv.range.cells sv.cells sv.writes _ rs
-    (sym (ap (λ z. ask_all z piece.items sv.range.cells) at.head ∙ ap (λ z. ask_all q.head z sv.range.cells) at.items ∙ all-read q.head q.items sv.range.cells read) ∙ sv.gives)) in
+    (sym (ap (λ z. serve at.world.records z z.left piece.items sv.range.cells) at.head ∙ ap (λ z. serve at.world.records q.head q.head.left z sv.range.cells) at.items ∙ ap (λ o. serve at.world.records q.head o q.items sv.range.cells) limit ∙ serve-reads at.world.records q.head q.items sv.range.cells read) ∙ sv.gives)) in
     let plain : Each (IsPlain q.head p) (pairs piece.head piece.items rs) = subst (Each (IsPlain q.head p)) (append_nil (pairs piece.head piece.items rs)) end.answers in
     let here : Each (IsPlain q.head p) (pairs q.head q.items (map (reply_of q.head sv.range.cells) q.items)) =
     subst (λ z. Each (IsPlain q.head p) (pairs q.head q.items z)) range
@@ -181,15 +182,15 @@ reads-answer q a b p batch n piece rs reads ready at =
       stands = subst (λ cs. StandsFor b.world (record p { cells = cs })) (sym (finished-nothing q.head q.head.txn p.cells)) end.stands;
     }
 
-answers : (q : Asking) (a b : Stands) (p : Store) (batch : Batch) (n : ℕ) (piece : Piece) (rs : List Reply) → q.head.txn ≡ None → MayAct p q → Ready a p batch q → Before q a b p n piece (Done rs) → Answers q p rs b.world
-answers q a b p batch n piece rs single (inr reads) ready at = reads-answer q a b p batch n piece rs reads ready at
-answers q a b p batch n piece rs single (inl none) ready at =
-    writes-answer q at.world b.world p n piece rs none single at.head at.items at.stands (service at.world n piece rs (told at.world (Send n piece (Done rs)) at.does.0 at.does.1).0) (at.does.2 ∙ (told at.world (Send n piece (Done rs)) at.does.0 at.does.1).1)
+answers : (q : Asking) (a b : Stands) (p : Store) (batch : Batch) (n : ℕ) (piece : Piece) (rs : List Reply) → q.head.txn ≡ None → q.head.left ≡ None → MayAct p q → Ready a p batch q → Before q a b p n piece (Done rs) → Answers q p rs b.world
+answers q a b p batch n piece rs single limit (inr reads) ready at = reads-answer q a b p batch n piece rs reads limit ready at
+answers q a b p batch n piece rs single limit (inl none) ready at =
+    writes-answer q at.world b.world p n piece rs none single limit at.head at.items at.stands (service at.world n piece rs (told at.world (Send n piece (Done rs)) at.does.0 at.does.1).0) (at.does.2 ∙ (told at.world (Send n piece (Done rs)) at.does.0 at.does.1).1)
 
 led-ok : (a b : Stands) (p : Store) (batch : Batch) (q : Asking) (rs : List Reply) (got : List Accepted) → IsSingle batch → (path : Path q a b got) → Each IsQuiet path.added → Each (IsWholeOf q) path.added → MayAct p q → Ready a p batch q → q.head.txn ≡ None → LastServes q rs path.added → LeadsTo a b p batch (Outcome.Ok rs)
 led-ok a b p batch q rs got single path quiet whole may ready none last =
     let at = before-last q a b p got path last.before last.node last.piece (Done rs) last.last quiet whole last.idle ready.stands in
-    let so = answers q a b p batch last.node last.piece rs none may ready at in
+    let so = answers q a b p batch last.node last.piece rs none (no-left a p batch q single.unlimited ready) may ready at in
     led a b p (counted_store batch (Outcome.Ok rs) (record p { cells = finished q.head so.writes so.cells })) batch q (Outcome.Ok rs) got path quiet
     (record {
       unlimited = single.unlimited;
@@ -223,19 +224,19 @@ whole_law budget batch q a b (Outcome.OpRequiresTxn d) p single given did quiet 
     (held-back a b p batch q (Outcome.OpRequiresTxn d) did.got single did.path quiet (idle-wide q d did.path.added did.cause) ready refl, tt)
 whole_law budget batch q a b (Outcome.NotOnePhase d) p single given did quiet may ready = absurd did.cause
 whole_law budget batch q a b (Outcome.ConditionFailed i v) p single given did quiet may ready =
-    (held-back a b p batch q (Outcome.ConditionFailed i v) did.got single did.path quiet did.cause.0.1 ready refl, fails-so q a b p batch (Failure.Condition i v) did.got (headed batch q a p single ready) did.path quiet did.cause.0.0 did.cause.0.1 may ready did.cause.1)
+    (held-back a b p batch q (Outcome.ConditionFailed i v) did.got single did.path quiet did.cause.0.1 ready refl, fails-so q a b p batch (Failure.Condition i v) did.got single.unlimited (headed batch q a p single ready) did.path quiet did.cause.0.0 did.cause.0.1 may ready did.cause.1)
 whole_law budget batch q a b (Outcome.WriteTooOld i k s) p single given did quiet may ready =
-    (held-back a b p batch q (Outcome.WriteTooOld i k s) did.got single did.path quiet did.cause.0.1 ready refl, fails-so q a b p batch (Failure.TooOld i k s) did.got (headed batch q a p single ready) did.path quiet did.cause.0.0 did.cause.0.1 may ready did.cause.1)
+    (held-back a b p batch q (Outcome.WriteTooOld i k s) did.got single did.path quiet did.cause.0.1 ready refl, fails-so q a b p batch (Failure.TooOld i k s) did.got single.unlimited (headed batch q a p single ready) did.path quiet did.cause.0.0 did.cause.0.1 may ready did.cause.1)
 whole_law budget batch q a b (Outcome.NotInteger i) p single given did quiet may ready =
-    (held-back a b p batch q (Outcome.NotInteger i) did.got single did.path quiet did.cause.0.1 ready refl, fails-so q a b p batch (Failure.NotInteger i) did.got (headed batch q a p single ready) did.path quiet did.cause.0.0 did.cause.0.1 may ready did.cause.1)
+    (held-back a b p batch q (Outcome.NotInteger i) did.got single did.path quiet did.cause.0.1 ready refl, fails-so q a b p batch (Failure.NotInteger i) did.got single.unlimited (headed batch q a p single ready) did.path quiet did.cause.0.0 did.cause.0.1 may ready did.cause.1)
 whole_law budget batch q a b (Outcome.Overflow i) p single given did quiet may ready =
-    (held-back a b p batch q (Outcome.Overflow i) did.got single did.path quiet did.cause.0.1 ready refl, fails-so q a b p batch (Failure.Overflow i) did.got (headed batch q a p single ready) did.path quiet did.cause.0.0 did.cause.0.1 may ready did.cause.1)
+    (held-back a b p batch q (Outcome.Overflow i) did.got single did.path quiet did.cause.0.1 ready refl, fails-so q a b p batch (Failure.Overflow i) did.got single.unlimited (headed batch q a p single ready) did.path quiet did.cause.0.0 did.cause.0.1 may ready did.cause.1)
 whole_law budget batch q a b Outcome.TxnAborted p single given did quiet may ready =
     (held-back a b p batch q Outcome.TxnAborted did.got single did.path quiet did.cause.0.1 ready refl, tt)
 whole_law budget batch q a b (Outcome.Ambiguous lost) p single given did quiet may ready = absurd (either did.cause.1)
   where
     either : (LastFails Failure.Committed did.path.added ⊎ LastLost did.path.added) → ⊥
-    either (inl last) = never-of-record q.head q.items p.cells Failure.Committed tt (fails-so q a b p batch Failure.Committed did.got (headed batch q a p single ready) did.path quiet did.cause.0.0 did.cause.0.1 may ready last)
+    either (inl last) = never-of-record q.head q.items p.cells Failure.Committed tt (fails-so q a b p batch Failure.Committed did.got single.unlimited (headed batch q a p single ready) did.path quiet did.cause.0.0 did.cause.0.1 may ready last)
     either (inr last) = never-lost did.path.added last.before last.node last.piece last.last quiet
 whole_law budget batch q a b (Outcome.RetryExhausted r l) p single given did quiet may ready =
     (held-back a b p batch q (Outcome.RetryExhausted r l) did.got single did.path quiet did.cause.0.1 ready refl, tt)

@@ -1,29 +1,37 @@
 -- A batch without a transaction that a range answers, where none is open: the store answers it so, and the world stands
 -- for the store afterwards.
-use Rattle.std.proofs.Common.{◌≡◌, ℕ, Bool, true, false, List, [], Option, Some, None, refl, sym, ap, ◌∙◌, subst, fold}
+use Rattle.std.proofs.Common.{◌≡◌, ℕ, Bool, true, false, List, [], Option, Some, None, refl, sym, ap, ◌∙◌, subst, fold, cond, ◌∷◌}
 use Rattle.std.specs.List.{find, list_all}
-use Rattle.ds_base.specs.Order.{holds}
-use Rattle.ds_base.specs.Ordered.{Ascends}
+use Rattle.ds_base.specs.Order.{holds, Extent}
+use Rattle.ds_base.specs.Ordered.{Ascends, key_eq, at_key}
 use Rattle.ds_kind.specs.declared.batch.Head.{Head}
 use Rattle.ds_kind.specs.declared.batch.Item.{Item}
 use Rattle.ds_kind.specs.declared.batch.Piece.{Piece}
 use Rattle.ds_kind.specs.declared.reply.Failure.{Failure}
 use Rattle.ds_kind.specs.declared.reply.Reply.{Reply}
-use Rattle.ds_cell.specs.Content.{Content, AllAbove, stamp_of}
-use Rattle.ds_cell.specs.Ask.{Cells, key_of, content_at}
+use Rattle.ds_cell.specs.Content.{Content, AllAbove, stamp_of, no_content}
+use Rattle.ds_cell.specs.Ask.{Cells, key_of, content_at, content_of}
 use Rattle.ds_cell.specs.Change.{made}
 use Rattle.ds_cell.specs.Store.{Store, StoreTxn, WriteAt, settle_all}
 use Rattle.ds_rule.specs.Asking.{Asking, Made, Gives, Fails, ask_all, committed_by, finished, txn_number}
-use Rattle.ds_rule.specs.Deliver.{holds_item, with_cells, world_made, world_at, deliver_world, deliver_world_to}
+use Rattle.ds_rule.specs.Deliver.{holds_item, with_cells, world_made, world_at, deliver_world, deliver_world_to, all_done, done_by, done_unless, end_of_txn, served}
 use Rattle.ds_rule.specs.Pieces.{Each}
 use Rattle.ds_rule.specs.StandsFor.{StandsFor, IsAt, IsIntentOf, open_stamp}
-use Rattle.ds_rule.specs.World.{World, Range, start_of, end_of, contents, cell_of, Inside, has_id, replaced}
+use Rattle.ds_rule.specs.World.{World, Range, start_of, end_of, contents, cell_of, Inside, has_id, replaced, Fits}
 use Rattle.ds_world.proofs.Foreign.{keeps-holding}
 use Rattle.ds_law.proofs.Alike.{Both, Alike, all-alike, settle-both}
 use Rattle.ds_law.proofs.Kept.{Within, all-within}
-use Rattle.ds_law.proofs.Replacing.{given-in, given-out, given-tiles, found-fits, range-at}
+use Rattle.ds_law.proofs.Replacing.{given-in, given-out, given-tiles, found-fits, range-at, not-both}
 use Rattle.ds_rule.proofs.Service.{Service, held}
-use Rattle.ds_law.proofs.Settling.{IsClear, clear-again, Outside, stays-outside, stays-inside}
+use Rattle.ds_law.proofs.Settling.{IsClear, clear-again, Outside, stays-outside, stays-inside, Frees, IsFree, clear-free}
+use Rattle.ds_rule.specs.Serve.{serve}
+use Rattle.ds_rule.specs.Shifts.{lease_to, split_at}
+use Rattle.ds_base.proofs.OrderedFacts.{eq_same}
+use Rattle.ds_kind.specs.declared.request.Request.{Request}
+use Rattle.ds_world.proofs.Shifted.{lease_holds, lease_keeps, split_holds, split_keeps}
+use Rattle.ds_law.proofs.Standing.{stands-left}
+use Rattle.ds_law.proofs.Resolving.{AtAny, none-free, serve-plain}
+use Rattle.ds_kind.specs.declared.request.Request.TheVariants.{Get, Scan, ReverseScan, Put, ConditionalPut, InitPut, Increment, Delete, DeleteRange, EndTxn, QueryIntent, ResolveIntent, ResolveIntentRange, AdminSplit, AdminTransferLease}
 
 -- where no transaction is open the world and the store hold the same at each key, with no intent
 
@@ -97,15 +105,71 @@ alike-fails s e f (Gives out vs qs) h = absurd h
 
 -- what the world becomes
 
-served-world : (w : World) (n : ℕ) (p : Piece) (rs : List Reply) → (sv : Service w n p rs) → deliver_world w n p ≡ with_cells p.range (finished p.head sv.writes sv.cells) w
+served-world : (w : World) (n : ℕ) (p : Piece) (rs : List Reply) → (sv : Service w n p rs) → deliver_world w n p ≡ all_done p.head p.items rs (with_cells p.range (finished p.head sv.writes sv.cells) w)
 served-world w n p rs sv =
     ap (deliver_world_to w n p) sv.found ∙ ap (world_at w p sv.range) sv.goes ∙ ap (world_made w p) sv.gives
 
 alone : (h : Head) (ws : List WriteAt) (cells : Cells) → h.txn ≡ None → finished h ws cells ≡ settle_all 0 (Some h.at) ws cells
 alone h ws cells none = ap (λ t. committed_by h t ws cells) none
 
-same-asked : (h g : Head) (is js : List Item) (cells : Cells) → h ≡ g → is ≡ js → ask_all h is cells ≡ ask_all g js cells
-same-asked h g is js cells head items = ap (λ z. ask_all z is cells) head ∙ ap (λ z. ask_all g z cells) items
+-- the range of a world where no intent stands has none
+
+none-far : (s e k : List ℕ) (cells : Cells) → Inside s e cells → holds s e k ≡ false → content_at k cells ≡ no_content
+none-far s e k [] lies far = refl
+none-far s e k (p ∷ ps) lies far =
+    elim (key_eq p.0 k) as (λ t. key_eq p.0 k ≡ t → content_of (cond t (Some p) (at_key key_of k ps)) ≡ no_content) [
+      | true ↦ λ h. absurd (not-both (holds s e k) (subst (λ z. holds s e z ≡ true) (eq_same p.0 k h) lies.0) far)
+      | false ↦ λ h. none-far s e k ps lies.1 far
+    ] refl
+
+range-frees : (w : World) (p : Store) (f : Range → Bool) (r : Range) → find f w.ranges ≡ Some r → IsPlainly w p → StandsFor w p → Frees AtAny r.cells
+range-frees w p f r found plain st = (fit.rising, at)
+  where
+    fit : Fits (start_of r) r
+    fit = found-fits f [] w.ranges r st.keeps.tiled found
+
+    at : (k : List ℕ) → IsFree (Unit {0}) (content_at k r.cells)
+    at k =
+        elim (holds (start_of r) (end_of r) k) as (λ t. holds (start_of r) (end_of r) k ≡ t → IsFree (Unit {0}) (content_at k r.cells)) [
+          | true ↦ λ here. subst (IsFree (Unit {0})) (sym (range-at f [] w.ranges r k st.keeps.tiled found here ∙ plain.same k)) (clear-free _ _ (plain.clear k))
+          | false ↦ λ far. subst (IsFree (Unit {0})) (sym (none-far (start_of r) (end_of r) k r.cells fit.inside far)) none-free
+        ] refl
+
+-- so the batch in one piece is served as the store is asked
+pub plain-served : (q : Asking) (w : World) (p : Store) (piece : Piece) (r : Range) → p.txn ≡ None → q.head.txn ≡ None → q.head.left ≡ None → piece.head ≡ q.head → piece.items ≡ q.items → StandsFor w p → find (has_id piece.range) w.ranges ≡ Some r → served w piece r ≡ ask_all q.head q.items r.cells
+plain-served q w p piece r none single free head items st found =
+    ap (λ h. serve w.records h h.left piece.items r.cells) head
+    ∙ ap (λ is. serve w.records q.head q.head.left is r.cells) items
+    ∙ ap (λ o. serve w.records q.head o q.items r.cells) free
+    ∙ serve-plain w.records q.head q.items r.cells st.named (ap txn_number single) (range-frees w p (has_id piece.range) r found (plainly w p none st) st)
+
+-- what a piece without a transaction does beside keeps the world standing for the store
+
+by-stands : (h : Head) (q : Request) (w : World) (p : Store) → h.txn ≡ None → StandsFor w p → StandsFor (done_by h q w) p
+by-stands h (Get a) w p none st = st
+by-stands h (Scan a) w p none st = st
+by-stands h (ReverseScan a) w p none st = st
+by-stands h (Put a) w p none st = st
+by-stands h (ConditionalPut a) w p none st = st
+by-stands h (InitPut a) w p none st = st
+by-stands h (Increment a) w p none st = st
+by-stands h (Delete a) w p none st = st
+by-stands h (DeleteRange a) w p none st = st
+by-stands h (EndTxn a) w p none st = subst (λ t. StandsFor (end_of_txn t a.commit w) p) (sym none) st
+by-stands h (QueryIntent a) w p none st = st
+by-stands h (ResolveIntent a) w p none st = st
+by-stands h (ResolveIntentRange a) w p none st = st
+by-stands h (AdminSplit a) w p none st = stands-left w (split_at a.key w) p (record { keeps = split_keeps a.key w st.keeps; contents = split_holds a.key w st.keeps; records = refl; copies = refl }) st
+by-stands h (AdminTransferLease a) w p none st = stands-left w (lease_to a.key a.node w) p (record { keeps = lease_keeps a.key a.node w st.keeps; contents = lease_holds a.key a.node w st.keeps; records = refl; copies = refl }) st
+
+unless-stands : (o : Option Extent) (h : Head) (q : Request) (w : World) (p : Store) → h.txn ≡ None → StandsFor w p → StandsFor (done_unless o h q w) p
+unless-stands None h q w p none st = by-stands h q w p none st
+unless-stands (Some rest) h q w p none st = st
+
+done-stands : (h : Head) (items : List Item) (rs : List Reply) (w : World) (p : Store) → h.txn ≡ None → StandsFor w p → StandsFor (all_done h items rs w) p
+done-stands h [] rs w p none st = st
+done-stands h (i ∷ is) [] w p none st = st
+done-stands h (i ∷ is) (r ∷ rs) w p none st = done-stands h is rs (done_unless r.resume h i.request w) p none (unless-stands r.resume h i.request w p none st)
 
 -- the world with what a range holds now stands for the store with what it holds now
 given-stands : (w : World) (p : Store) (id : ℕ) (r : Range) (cells all : Cells) → find (has_id id) w.ranges ≡ Some r → p.txn ≡ None → IsPlainly w p → StandsFor w p → Ascends key_of cells × Inside (start_of r) (end_of r) cells → Both (start_of r) (end_of r) cells all → Outside (start_of r) (end_of r) p.cells all → ((k : List ℕ) → IsClear (content_at k all)) → StandsFor (with_cells id cells w) (record p { cells = all })
@@ -138,13 +202,13 @@ pub record Answers (q : Asking) (p : Store) (rs : List Reply) (v : World) : Type
   pub gives : ask_all q.head q.items p.cells ≡ Gives cells writes rs
   pub stands : StandsFor v (record p { cells = finished q.head writes cells })
 
-pub writes-answer : (q : Asking) (w v : World) (p : Store) (n : ℕ) (piece : Piece) (rs : List Reply) → p.txn ≡ None → q.head.txn ≡ None → piece.head ≡ q.head → piece.items ≡ q.items → StandsFor w p → Service w n piece rs → v ≡ deliver_world w n piece → Answers q p rs v
-writes-answer q w v p n piece rs none single head items st sv is =
+pub writes-answer : (q : Asking) (w v : World) (p : Store) (n : ℕ) (piece : Piece) (rs : List Reply) → p.txn ≡ None → q.head.txn ≡ None → q.head.left ≡ None → piece.head ≡ q.head → piece.items ≡ q.items → StandsFor w p → Service w n piece rs → v ≡ deliver_world w n piece → Answers q p rs v
+writes-answer q w v p n piece rs none single free head items st sv is =
     let r = sv.range in
     let plain = plainly w p none st in
     let fit = found-fits (has_id piece.range) [] w.ranges r st.keeps.tiled sv.found in
     let fits : list_all (holds_item r) q.items ≡ true = subst (λ z. list_all (holds_item r) z ≡ true) items (held w n piece r sv.goes) in
-    let here : ask_all q.head q.items r.cells ≡ Gives sv.cells sv.writes rs = sym (same-asked piece.head q.head piece.items q.items r.cells head items) ∙ sv.gives in
+    let here : ask_all q.head q.items r.cells ≡ Gives sv.cells sv.writes rs = sym (plain-served q w p piece r none single free head items st sv.found) ∙ sv.gives in
     let like = alike-gives (start_of r) (end_of r) sv.cells sv.writes rs (ask_all q.head q.items p.cells) (subst (λ m. Alike (start_of r) (end_of r) m (ask_all q.head q.items p.cells)) here (all-alike r q.head q.items r.cells p.cells fits (range-both w p (has_id piece.range) r sv.found plain st))) in
     let within : Each (λ w. holds (start_of r) (end_of r) w.key ≡ true) sv.writes = subst (Within (start_of r) (end_of r)) here (all-within r q.head q.items r.cells fits) in
     let commit = Some q.head.at in
@@ -153,11 +217,11 @@ writes-answer q w v p n piece rs none single head items st sv is =
     (settle-both (start_of r) (end_of r) 0 commit sv.writes sv.cells like.out like.both)
     (stays-outside (start_of r) (end_of r) q.head q.items p.cells like.out sv.writes rs commit st.rising within like.gives)
     (clear-again q.head q.items p.cells like.out sv.writes rs commit (ap txn_number single) st.rising plain.clear like.gives) in
-    let world : with_cells piece.range (settle_all 0 commit sv.writes sv.cells) w ≡ v =
-    sym (is ∙ served-world w n piece rs sv ∙ ap (λ h. with_cells piece.range (finished h sv.writes sv.cells) w) head ∙ ap (λ cs. with_cells piece.range cs w) (alone q.head sv.writes sv.cells single)) in
+    let world : all_done piece.head piece.items rs (with_cells piece.range (settle_all 0 commit sv.writes sv.cells) w) ≡ v =
+    sym (is ∙ served-world w n piece rs sv ∙ ap (λ h. all_done piece.head piece.items rs (with_cells piece.range (finished h sv.writes sv.cells) w)) head ∙ ap (λ cs. all_done piece.head piece.items rs (with_cells piece.range cs w)) (alone q.head sv.writes sv.cells single)) in
     record {
       cells = like.out;
       writes = sv.writes;
       gives = like.gives;
-      stands = subst (λ cs. StandsFor v (record p { cells = cs })) (sym (alone q.head sv.writes like.out single)) (subst (λ u. StandsFor u (record p { cells = settle_all 0 commit sv.writes like.out })) world stands);
+      stands = subst (λ cs. StandsFor v (record p { cells = cs })) (sym (alone q.head sv.writes like.out single)) (subst (λ u. StandsFor u (record p { cells = settle_all 0 commit sv.writes like.out })) world (done-stands piece.head piece.items rs _ _ (ap (λ (h : Head). h.txn) head ∙ single) stands));
     }

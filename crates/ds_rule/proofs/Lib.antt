@@ -1,6 +1,7 @@
 pub mod Delivered
 pub mod Eachs
 pub mod Examples
+pub mod ExamplesOfDeliveries
 pub mod ExamplesOfJournals
 pub mod ExamplesOfLimits
 pub mod ExamplesOfMoves
@@ -14,5 +15,6 @@ pub mod Passing
 pub mod Puts
 pub mod Routes
 pub mod Service
+pub mod Short
 pub mod Tiling
 pub mod Writes

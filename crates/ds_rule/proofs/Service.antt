@@ -18,7 +18,7 @@ pub record Service (w : World) (node : ℕ) (p : Piece) (rs : List Reply) : Type
   pub goes : stops w node p range ≡ None
   pub cells : Cells
   pub writes : List WriteAt
-  pub gives : served p range ≡ Gives cells writes rs
+  pub gives : served w p range ≡ Gives cells writes rs
 
 made_done : (m : Made) (rs : List Reply) → Done rs ≡ answer_made m → (cells : Cells) × (ws : List WriteAt) × (m ≡ Gives cells ws rs)
 made_done (Gives cells ws qs) rs h = (cells, ws, cc)
@@ -28,8 +28,8 @@ not_done : (s : Stop) (rs : List Reply) → Done rs ≡ stop_answer s → ⊥
 not_done (Turned r) rs h = cc
 not_done (Ended f) rs h = cc
 
-at_done : (w : World) (p : Piece) (r : Range) (o : Option Stop) (rs : List Reply) → Done rs ≡ answer_at w p r o → (o ≡ None) × (cells : Cells) × (ws : List WriteAt) × (served p r ≡ Gives cells ws rs)
-at_done w p r None rs h = let m = made_done (served p r) rs h in (refl, m.0, m.1, m.2)
+at_done : (w : World) (p : Piece) (r : Range) (o : Option Stop) (rs : List Reply) → Done rs ≡ answer_at w p r o → (o ≡ None) × (cells : Cells) × (ws : List WriteAt) × (served w p r ≡ Gives cells ws rs)
+at_done w p r None rs h = let m = made_done (served w p r) rs h in (refl, m.0, m.1, m.2)
 at_done w p r (Some s) rs h = absurd (not_done s rs h)
 
 -- what a Done says
@@ -53,7 +53,7 @@ not_not false h = sym h
 -- a range that serves a piece holds its items' spans
 pub held : (w : World) (node : ℕ) (p : Piece) (r : Range) → stops w node p r ≡ None → list_all (holds_item r) p.items ≡ true
 held w node p r h =
-    let last = ends (status_stops (find (λ t. t.txn.0 == txn_of p.head) w.records)) in
+    let last = ends (status_stops (find (λ t. t.txn.0 == txn_of p.head) w.records) p) in
     let third = cond (not (list_all (holds_item r) p.items)) (Some (Turned (Mismatch (mismatch_rows w p)))) last in
     let second = cond (not (r.info.lease.node == node)) (Some (Turned (NotLease r.info.lease))) third in
     let a = if_none (not (list_any (λ n. n == node) r.info.desc.nodes)) (Turned NotFound) second h in
@@ -66,9 +66,9 @@ free_of None h = refl
 free_of (Some f) h = cc
 
 -- and its transaction's record takes pieces
-pub takes : (w : World) (node : ℕ) (p : Piece) (r : Range) → stops w node p r ≡ None → status_stops (find (λ t. t.txn.0 == txn_of p.head) w.records) ≡ None
+pub takes : (w : World) (node : ℕ) (p : Piece) (r : Range) → stops w node p r ≡ None → status_stops (find (λ t. t.txn.0 == txn_of p.head) w.records) p ≡ None
 takes w node p r h =
-    let status = status_stops (find (λ t. t.txn.0 == txn_of p.head) w.records) in
+    let status = status_stops (find (λ t. t.txn.0 == txn_of p.head) w.records) p in
     let third = cond (not (list_all (holds_item r) p.items)) (Some (Turned (Mismatch (mismatch_rows w p)))) (ends status) in
     let second = cond (not (r.info.lease.node == node)) (Some (Turned (NotLease r.info.lease))) third in
     let a = if_none (not (list_any (λ n. n == node) r.info.desc.nodes)) (Turned NotFound) second h in

@@ -48,7 +48,7 @@ abbrev pub AllIn : {X : Type 0} → List ℕ → List ℕ → List (List ℕ × 
 AllIn s e [] = Unit {0}
 AllIn s e (p ∷ ps) = (holds s e p.0 ≡ true) × AllIn s e ps
 
-in_between : (s e : List ℕ) (cells : Cells) → AllIn s e (between key_of s e cells)
+pub in_between : (s e : List ℕ) (cells : Cells) → AllIn s e (between key_of s e cells)
 in_between s e [] = tt
 in_between s e (p ∷ ps) =
     elim (holds s e p.0) as (λ t. holds s e p.0 ≡ t → AllIn s e (cond t (p ∷ between key_of s e ps) (between key_of s e ps))) [

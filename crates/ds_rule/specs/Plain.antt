@@ -6,13 +6,13 @@ use Rattle.ds_kind.specs.Asks.{takes_number}
 use Rattle.ds_kind.specs.declared.batch.Batch.{Batch}
 use Rattle.ds_kind.specs.declared.reply.Reply.{Reply}
 use Rattle.ds_kind.specs.declared.request.Request.{Request}
-use Rattle.ds_kind.specs.declared.request.Request.TheVariants.{EndTxn}
 use Rattle.ds_cell.specs.Ask.{Cells}
 use Rattle.ds_cell.specs.Store.{Store, StoreTxn, Asker, Mode, Live, FailedSince, Unknown, WriteAt, Fate, Pending, Committed, Aborted, put_cell, with_version}
 use Rattle.ds_rule.specs.declared.answer.Outcome.{Outcome}
 use Rattle.ds_rule.specs.declared.event.Event.{Event}
 use Rattle.ds_rule.specs.declared.event.Timed.{Timed}
 use Rattle.ds_rule.specs.Asking.{Asking, Made, Gives, Fails, ask_all, asking, finished}
+use Rattle.ds_rule.specs.Deliver.{is_rollback}
 
 -- events
 
@@ -89,10 +89,6 @@ abbrev pub is_pending : Fate → Bool
 is_pending Pending = true
 is_pending Committed = false
 is_pending Aborted = false
-
-abbrev pub is_rollback : List Request → Bool
-is_rollback (EndTxn a ∷ []) = if a.commit then false else true
-is_rollback rs = false
 
 -- a batch of the transaction finds it pending, or is its rollback alone
 abbrev pub finds_pending : Option Stamp → List Request → Option StoreTxn → Bool

@@ -1,5 +1,6 @@
 pub mod Cells
 pub mod Commutes
+pub mod Delivers
 pub mod First
 pub mod Foreign
 pub mod Leases

@@ -42,3 +42,7 @@ WritesAt k = (w : World) (v : Version) → Keeps w → key_lt k bound ≡ true �
 
 abbrev pub WritesNowhere : List ℕ → Type 0
 WritesNowhere k = (w : World) (v : Version) → Keeps w → key_lt k bound ≡ false → foreign_at k v w ≡ w
+
+-- it is no event: it counts nothing, arms and uses up no row, and no late copy comes or goes
+abbrev pub IsNoEvent : (World → World) → Type 0
+IsNoEvent f = (w : World) → ((f w).armed ≡ w.armed) × ((f w).copies ≡ w.copies) × ((f w).count ≡ w.count)

@@ -1,10 +1,12 @@
 //! The laws as theorems.
 ghost use Rattle.ds_cell.specs.declared.entry.Version.{Version};
+ghost use Rattle.ds_rule.specs.Deliver.{deliver_world};
 ghost use Rattle.ds_rule.specs.Shifts.{split_at, merge_at, lease_to, move_to, stale_by, foreign_at};
-ghost use Rattle.ds_world.specs.Laws.{KeepsAll, LeavesContents, LeavesDescs, LeavesRest, AddsDescs, ArmsAlone, GoesBesideWrites, WritesAt, WritesNowhere};
+ghost use Rattle.ds_world.specs.Laws.{KeepsAll, LeavesContents, LeavesDescs, LeavesRest, AddsDescs, ArmsAlone, GoesBesideWrites, IsNoEvent, WritesAt, WritesNowhere};
 
 use ds_base::Key;
 use ds_desc::Nodes;
+use ds_kind::Piece;
 
 /// Does nothing: its clauses are the laws of a split at the key. It keeps what every world keeps and
 /// what every key holds, only adds descriptors, and leaves all else but the ranges. A foreign write at
@@ -78,4 +80,14 @@ pub fn foreign_laws(key: &Key)
     ensures rest { (v : Version) → LeavesRest (foreign_at key.now v) }
 {
     let _ = key;
+}
+
+/// Does nothing: its clauses are the laws of a delivery, whatever the piece asks and is answered. It
+/// keeps what every world keeps, and is no event.
+pub fn deliver_laws(node: u8, piece: &Piece)
+    ensures keeps { KeepsAll (λ w. deliver_world w node piece.now) }
+    ensures beside { IsNoEvent (λ w. deliver_world w node piece.now) }
+{
+    let _ = node;
+    let _ = piece;
 }
