@@ -11,8 +11,6 @@ mod ranked;
 mod reads;
 mod request;
 mod taken;
-#[cfg(test)]
-mod tests;
 mod verdict;
 mod versions;
 mod writes;

@@ -9,7 +9,7 @@ use Rattle.ds_base.proofs.SmallFacts.{and_first, and_second, and_both}
 use Rattle.ds_kind.specs.Bodies.{put_in_order}
 use Rattle.ds_cover.specs.Items.{AllSome}
 use Rattle.ds_cover.specs.Chains.{one_if, times_held, Sorts, starts, by_start, Chain, joined_over}
-use Rattle.ds_cover.proofs.Tests.{not_both, zero_plus, le_itself}
+use Rattle.ds_cover.proofs.Tests.{not_both, zero_plus, le_itself, exchange}
 use Rattle.ds_cover.proofs.InOrder.{sorts, ascend-differ, keyed-sorted, same-order}
 
 some-put : {X : Type 0} (f : X → Extent) (a : X) (xs : List X) → key_lt (f a).start (f a).end ≡ true → AllSome f xs → AllSome f (put_in_order (starts f) a xs)
@@ -23,9 +23,6 @@ some-put f a (b ∷ bs) h all =
 some-sorted : {X : Type 0} (f : X → Extent) (xs : List X) → AllSome f xs → AllSome f (by_start f xs)
 some-sorted f [] all = tt
 some-sorted f (x ∷ xs) all = some-put f x (by_start f xs) all.0 (some-sorted f xs all.1)
-
-exchange : (a b c : ℕ) → a + (b + c) ≡ b + (a + c)
-exchange a b c = omega arith
 
 held-put : {X : Type 0} (f : X → Extent) (k : List ℕ) (a : X) (xs : List X) → times_held f k (put_in_order (starts f) a xs) ≡ one_if (holds (f a).start (f a).end k) + times_held f k xs
 held-put f k a [] = refl

@@ -1,9 +1,10 @@
 -- A cut between two bounds, for points and spans.
 use Rattle.std.proofs.Common.{◌≡◌, ℕ, true, false, cond, List, [], ◌∷◌, ◌++◌, refl, sym, ap, ◌∙◌, Option, Some, None}
 use Rattle.std.proofs.lemmas.List.{flat_map_more}
-use Rattle.ds_base.proofs.KeyOrder.{below-after, key_le_lt-trans}
+use Rattle.ds_base.proofs.KeyOrder.{key_le_lt-trans}
 use Rattle.ds_base.proofs.SmallFacts.{and_first, and_second, and_both}
 use Rattle.ds_base.specs.Order.{Extent, key_lt, key_le, holds, after}
+use Rattle.ds_base.proofs.KeyFacts.{max_second, min_second, own_span}
 use Rattle.ds_kind.specs.Reach.{Reach, At, Over, extent_of}
 use Rattle.ds_kind.specs.Request.{cut_to, reach_of}
 use Rattle.ds_kind.specs.declared.batch.Item.{Item}
@@ -11,7 +12,7 @@ use Rattle.ds_kind.specs.declared.request.Request.{Request}
 use Rattle.ds_kind.specs.declared.request.Request.TheVariants.{Get, Scan, ReverseScan, Put, ConditionalPut, InitPut, Increment, Delete, DeleteRange, EndTxn, QueryIntent, ResolveIntent, ResolveIntentRange, AdminSplit, AdminTransferLease}
 use Rattle.ds_cover.specs.Clips.{not_below, not_above, clip, passes}
 use Rattle.ds_cover.specs.Cuts.{cut_item, cut_by}
-use Rattle.ds_cover.proofs.Cutting.{Keeps, within-keeps, from-keeps, up_to-keeps, point-kept, max_right, min_right}
+use Rattle.ds_cover.proofs.Cutting.{Keeps, within-keeps, from-keeps, up_to-keeps, point-kept}
 use Rattle.ds_cover.proofs.Tests.{le_itself, not_both, and_true}
 
 pub clip-keeps : (low high : Option (List ℕ)) → Keeps (clip low high) (passes low high)
@@ -37,14 +38,11 @@ cut-point s e k (ResolveIntentRange a) h = cc
 cut-point s e k (AdminSplit a) h = refl
 cut-point s e k (AdminTransferLease a) h = refl
 
-own : (k : List ℕ) → holds k (after k) k ≡ true
-own k = and_both _ _ (le_itself k) (below-after k)
-
 -- whether anything is left of a point
 point-some : (low high : Option (List ℕ)) (k : List ℕ) → passes low high k ≡ true → key_lt (clip low high (extent_of (At k))).start (clip low high (extent_of (At k))).end ≡ true
 point-some low high k h =
     let x = clip low high (extent_of (At k)) in
-    let there : holds x.start x.end k ≡ true = clip-keeps low high (extent_of (At k)) k ∙ and_both _ _ (own k) h in
+    let there : holds x.start x.end k ≡ true = clip-keeps low high (extent_of (At k)) k ∙ and_both _ _ (own_span k) h in
     key_le_lt-trans x.start k x.end (and_first _ _ there) (and_second (key_le x.start k) _ there)
 
 -- the cut of an item whose reach is known
@@ -83,11 +81,11 @@ over-out low high s e i is h =
 
 pub below-le : (low : Option (List ℕ)) (k : List ℕ) → key_le k (not_below low k) ≡ true
 below-le None k = le_itself k
-below-le (Some m) k = max_right m k
+below-le (Some m) k = max_second m k
 
 pub above-le : (high : Option (List ℕ)) (k : List ℕ) → key_le (not_above high k) k ≡ true
 above-le None k = le_itself k
-above-le (Some m) k = min_right m k
+above-le (Some m) k = min_second m k
 
 -- one item more
 pub cut-more : (f : Extent → Extent) (xs : List Item) (x : Item) (kept : List Item) (more : List Item) → kept ≡ cut_by f xs → more ≡ cut_item f x → kept ++ more ≡ cut_by f (xs ++ x ∷ [])

@@ -6,12 +6,15 @@ use Rattle.ds_base.proofs.SmallFacts.{and_first, and_second, and_both, some_same
 use Rattle.ds_base.specs.Order.{Extent, key_lt, key_le, holds, after, max_key, min_key}
 use Rattle.ds_base.specs.declared.value.Dir.{Dir}
 use Rattle.ds_base.specs.declared.value.Dir.TheVariants.{Forward, Reverse}
+use Rattle.ds_base.proofs.KeyFacts.{min_first, min_second, max_first, max_second}
+use Rattle.ds_base.proofs.TestFacts.{and_pairs}
 use Rattle.ds_desc.specs.Contains.{contains}
+use Rattle.ds_kind.specs.CutReach.{cut_reach}
 use Rattle.ds_kind.specs.Reach.{Reach, At, Over, extent_of}
 use Rattle.ds_kind.specs.Request.{cut_to, reach_of, span_of}
 use Rattle.ds_kind.specs.declared.batch.Item.{Item}
 use Rattle.ds_kind.specs.declared.request.Request.{Request}
-use Rattle.ds_kind.specs.declared.request.Request.TheVariants.{Get, Scan, ReverseScan, Put, ConditionalPut, InitPut, Increment, Delete, DeleteRange, EndTxn, QueryIntent, ResolveIntent, ResolveIntentRange, AdminSplit, AdminTransferLease}
+use Rattle.ds_kind.proofs.RequestFacts.{reach_cut}
 use Rattle.ds_cover.specs.Coverage.{holds_at, positions_at, AllNone, Shares, Covered}
 use Rattle.ds_cover.specs.Cuts.{cut_by, within, from, up_to, cut_items, rest_items, AllNear, seek_from, seek_key}
 use Rattle.ds_cover.proofs.Tests.{never, same_test, and_no, le_itself}
@@ -40,12 +43,6 @@ KeepsOf y p x = (k : List ℕ) → holds y.start y.end k ≡ (holds x.start x.en
 abbrev pub Keeps : (Extent → Extent) → (List ℕ → Bool) → Type 0
 Keeps f p = (x : Extent) → KeepsOf (f x) p x
 
-four : (a b c d : Bool) → ((a && b) && (c && d)) ≡ ((a && c) && (b && d))
-four true true c d = refl
-four true false true d = refl
-four true false false d = refl
-four false b c d = refl
-
 three : (a b c : Bool) → ((a && b) && c) ≡ ((a && c) && b)
 three true true true = refl
 three true true false = refl
@@ -61,7 +58,7 @@ pub within-keeps : (span : Extent) → Keeps (within span) (holds span.start spa
 within-keeps span x k =
     ap (λ t. t && key_lt k (min_key span.end x.end)) (max_le span.start x.start k)
     ∙ ap (λ t. (key_le x.start k && key_le span.start k) && t) (lt_min span.end x.end k)
-    ∙ four (key_le x.start k) (key_le span.start k) (key_lt k x.end) (key_lt k span.end)
+    ∙ and_pairs (key_le x.start k) (key_le span.start k) (key_lt k x.end) (key_lt k span.end)
 
 pub from-keeps : (m : List ℕ) → Keeps (from m) (key_le m)
 from-keeps m x k =
@@ -72,27 +69,6 @@ up_to-keeps m x k =
     ap (λ t. key_le x.start k && t) (lt_min m x.end k) ∙ assoc (key_le x.start k) (key_lt k x.end) (key_lt k m)
 
 -- a cut of a request
-
-abbrev pub cut_reach : List ℕ → List ℕ → Reach → Reach
-cut_reach s e (At k) = At k
-cut_reach s e (Over a b) = Over s e
-
-pub reach-cut : (s e : List ℕ) (r : Request) → reach_of (cut_to s e r) ≡ cut_reach s e (reach_of r)
-reach-cut s e (Get a) = refl
-reach-cut s e (Scan a) = refl
-reach-cut s e (ReverseScan a) = refl
-reach-cut s e (Put a) = refl
-reach-cut s e (ConditionalPut a) = refl
-reach-cut s e (InitPut a) = refl
-reach-cut s e (Increment a) = refl
-reach-cut s e (Delete a) = refl
-reach-cut s e (DeleteRange a) = refl
-reach-cut s e (EndTxn a) = refl
-reach-cut s e (QueryIntent a) = refl
-reach-cut s e (ResolveIntent a) = refl
-reach-cut s e (ResolveIntentRange a) = refl
-reach-cut s e (AdminSplit a) = refl
-reach-cut s e (AdminTransferLease a) = refl
 
 -- what is kept of a point is all of it, if it is anything
 pub point-kept : (y : Extent) (p : List ℕ → Bool) (a : List ℕ) → KeepsOf y p (extent_of (At a)) → key_lt y.start y.end ≡ true → p a ≡ true
@@ -110,7 +86,7 @@ reach-holds y p (At a) keeps some k =
 
 pub cut-holds : (y : Extent) (p : List ℕ → Bool) (r : Request) → KeepsOf y p (span_of r) → key_lt y.start y.end ≡ true → KeepsOf (span_of (cut_to y.start y.end r)) p (span_of r)
 cut-holds y p r keeps some k =
-    ap (λ reach. holds (extent_of reach).start (extent_of reach).end k) (reach-cut y.start y.end r)
+    ap (λ reach. holds (extent_of reach).start (extent_of reach).end k) (reach_cut y.start y.end r)
     ∙ reach-holds y p (reach_of r) keeps some k
 
 -- where nothing is kept, no key of it passes
@@ -228,57 +204,29 @@ near-covered d span items block xs ys near h k =
 
 -- the seek key is the nearest
 
-min_left : (a b : List ℕ) → key_le (min_key a b) a ≡ true
-min_left a b =
-    elim (key_lt b a) as (λ t. key_lt b a ≡ t → key_le (cond t b a) a ≡ true) [
-      | true ↦ λ e. le_of_lt b a e
-      | false ↦ λ e. le_itself a
-    ] refl
-
-pub min_right : (a b : List ℕ) → key_le (min_key a b) b ≡ true
-min_right a b =
-    elim (key_lt b a) as (λ t. key_lt b a ≡ t → key_le (cond t b a) b ≡ true) [
-      | true ↦ λ e. le_itself b
-      | false ↦ λ e. le_of_not_lt b a e
-    ] refl
-
-max_left : (a b : List ℕ) → key_le a (max_key a b) ≡ true
-max_left a b =
-    elim (key_lt a b) as (λ t. key_lt a b ≡ t → key_le a (cond t b a) ≡ true) [
-      | true ↦ λ e. le_of_lt a b e
-      | false ↦ λ e. le_itself a
-    ] refl
-
-pub max_right : (a b : List ℕ) → key_le b (max_key a b) ≡ true
-max_right a b =
-    elim (key_lt a b) as (λ t. key_lt a b ≡ t → key_le b (cond t b a) ≡ true) [
-      | true ↦ λ e. le_itself b
-      | false ↦ λ e. le_of_not_lt a b e
-    ] refl
-
 forward-low : (k m : List ℕ) (items : List Item) → key_le m (seek_from Forward k items) ≡ true → key_le m k ≡ true
 forward-low k m [] h = h
 forward-low k m (i ∷ is) h =
     let s = (span_of i.request).start in
-    le_trans m (min_key k s) k (forward-low (min_key k s) m is h) (min_left k s)
+    le_trans m (min_key k s) k (forward-low (min_key k s) m is h) (min_first k s)
 
 forward-near : (k : List ℕ) (span : Extent) (items : List Item) → key_le span.start (seek_from Forward k items) ≡ true → AllNear Forward span items
 forward-near k span [] h = tt
 forward-near k span (i ∷ is) h =
     let s = (span_of i.request).start in
-    (le_trans span.start (min_key k s) s (forward-low (min_key k s) span.start is h) (min_right k s), forward-near (min_key k s) span is h)
+    (le_trans span.start (min_key k s) s (forward-low (min_key k s) span.start is h) (min_second k s), forward-near (min_key k s) span is h)
 
 reverse-high : (k m : List ℕ) (items : List Item) → key_le (seek_from Reverse k items) m ≡ true → key_le k m ≡ true
 reverse-high k m [] h = h
 reverse-high k m (i ∷ is) h =
     let e = (span_of i.request).end in
-    le_trans k (max_key k e) m (max_left k e) (reverse-high (max_key k e) m is h)
+    le_trans k (max_key k e) m (max_first k e) (reverse-high (max_key k e) m is h)
 
 reverse-near : (k : List ℕ) (span : Extent) (items : List Item) → key_le (seek_from Reverse k items) span.end ≡ true → AllNear Reverse span items
 reverse-near k span [] h = tt
 reverse-near k span (i ∷ is) h =
     let e = (span_of i.request).end in
-    (le_trans e (max_key k e) span.end (max_right k e) (reverse-high (max_key k e) span.end is h), reverse-near (max_key k e) span is h)
+    (le_trans e (max_key k e) span.end (max_second k e) (reverse-high (max_key k e) span.end is h), reverse-near (max_key k e) span is h)
 
 pub seek-near : (d : Dir) (span : Extent) (s : List ℕ) (items : List Item) → seek_key d items ≡ Some s → contains d s span ≡ true → AllNear d span items
 seek-near Forward span s [] is in_it = tt

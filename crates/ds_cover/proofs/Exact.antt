@@ -8,10 +8,12 @@ use Rattle.ds_base.specs.declared.value.Dir.TheVariants.{Forward, Reverse}
 use Rattle.ds_kind.specs.Reach.{Reach, At, Over, extent_of}
 use Rattle.ds_kind.specs.Request.{cut_to, reach_of, span_of}
 use Rattle.ds_kind.specs.declared.batch.Item.{Item}
+use Rattle.ds_kind.specs.CutReach.{cut_reach}
+use Rattle.ds_kind.proofs.RequestFacts.{reach_cut}
 use Rattle.ds_cover.specs.Coverage.{holds_at, positions_at}
 use Rattle.ds_cover.specs.Cuts.{cut_by, within, from, up_to, cut_items, rest_items}
 use Rattle.ds_cover.specs.Items.{AllSome, item_span}
-use Rattle.ds_cover.proofs.Cutting.{cut_reach, reach-cut, cut_items-positions}
+use Rattle.ds_cover.proofs.Cutting.{cut_items-positions}
 use Rattle.ds_cover.proofs.Tests.{le_itself}
 
 reach-some : (s e : List ℕ) (reach : Reach) → key_lt s e ≡ true → key_lt (extent_of (cut_reach s e reach)).start (extent_of (cut_reach s e reach)).end ≡ true
@@ -26,7 +28,7 @@ cut-some f (i ∷ is) =
     let cut = record i { request = cut_to (f x).start (f x).end i.request } in
     elim (key_lt (f x).start (f x).end) as (λ t. key_lt (f x).start (f x).end ≡ t → AllSome item_span (cond t (cut ∷ []) [] ++ cut_by f is)) [
       | true ↦ λ some. (
-        subst (λ reach. key_lt (extent_of reach).start (extent_of reach).end ≡ true) (sym (reach-cut (f x).start (f x).end i.request)) (reach-some (f x).start (f x).end (reach_of i.request) some),
+        subst (λ reach. key_lt (extent_of reach).start (extent_of reach).end ≡ true) (sym (reach_cut (f x).start (f x).end i.request)) (reach-some (f x).start (f x).end (reach_of i.request) some),
         cut-some f is,
       )
       | false ↦ λ none. cut-some f is

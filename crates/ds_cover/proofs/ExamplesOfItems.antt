@@ -1,9 +1,10 @@
 -- Items, chains and measures: cases that hold, and cases that must not.
-use Rattle.std.proofs.Common.{◌≡◌, ℕ, ◌+◌, ◌-◌, ◌≤◌, ◌<◌, ◌==◌, Bool, true, false, List, [], ◌∷◌, refl, sym, ap, ◌∙◌, inl, inr, arith}
+use Rattle.std.proofs.Common.{◌≡◌, ℕ, ◌+◌, ◌-◌, ◌≤◌, ◌<◌, ◌==◌, true, false, List, [], ◌∷◌, refl, sym, inl, inr, arith}
 use Rattle.ds_base.specs.Number.{key_number}
 use Rattle.ds_base.specs.Order.{Extent}
 use Rattle.ds_base.specs.Ordered.{key_eq}
 use Rattle.ds_base.proofs.KeyNumber.{key_number-rises}
+use Rattle.ds_base.proofs.TestFacts.{differs}
 use Rattle.ds_kind.specs.declared.batch.Item.{Item}
 use Rattle.ds_cover.specs.Chains.{Chain, KeysDiffer}
 use Rattle.ds_cover.specs.Items.{PositionsRise, AreProper}
@@ -11,10 +12,7 @@ use Rattle.ds_cover.specs.Limits.{cut_each, KeepsTaken, NoneTaken}
 use Rattle.ds_cover.specs.Measures.{span_left, left_in, IsSpan}
 use Rattle.ds_cover.specs.Origins.{IsCut, CutsOf, scan_of, get_of, scan_then_get}
 use Rattle.ds_cover.proofs.InOrder.{ascend-differ}
-use Rattle.ds_cover.proofs.Tests.{never, not_both, and_true, and_no}
-
-differs : {X : Type 0} {x y : X} → x ≡ y → (test : X → Bool) → test x ≡ true → test y ≡ false → ⊥
-differs {x = x} same test passes fails = not_both (test x) passes (ap test same ∙ fails)
+use Rattle.ds_cover.proofs.Tests.{never, and_true, and_no}
 
 -- positions
 

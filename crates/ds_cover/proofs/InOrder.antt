@@ -8,15 +8,12 @@ use Rattle.std.proofs.lemmas.List.Sums.{sum_by-cons}
 use Rattle.ds_base.specs.Order.{key_lt, key_le}
 use Rattle.ds_base.specs.Ordered.{key_eq, AllOver, AllFrom, Ascends}
 use Rattle.ds_base.proofs.KeyOrder.{key_lt-irrefl, key_lt-trans, key_le-antisymm}
-use Rattle.ds_base.proofs.OrderedFacts.{le_of_lt, le_of_not_lt, le_trans, eq_same, eq_itself, gt_not_eq}
+use Rattle.ds_base.proofs.OrderedFacts.{le_of_lt, le_of_not_lt, eq_same, eq_itself, gt_not_eq}
+use Rattle.ds_base.proofs.KeyFacts.{from_lower}
 use Rattle.ds_kind.specs.Bodies.{put_in_order, in_order}
 use Rattle.ds_cover.specs.Items.{IsOneOf}
 use Rattle.ds_cover.specs.Chains.{one_if, Sorts, times_keyed, KeysDiffer}
-use Rattle.ds_cover.proofs.Tests.{not_both}
-
-from-lower : {X : Type 0} (key : X → List ℕ) (m k : List ℕ) (xs : List X) → key_le m k ≡ true → AllFrom key k xs → AllFrom key m xs
-from-lower key m k [] h all = tt
-from-lower key m k (x ∷ xs) h all = (le_trans m k (key x) h all.0, from-lower key m k xs h all.1)
+use Rattle.ds_cover.proofs.Tests.{not_both, exchange}
 
 from-put : {X : Type 0} (key : X → List ℕ) (m : List ℕ) (a : X) (xs : List X) → key_le m (key a) ≡ true → AllFrom key m xs → AllFrom key m (put_in_order key a xs)
 from-put key m a [] h all = (h, tt)
@@ -33,7 +30,7 @@ sorts-put key a (b ∷ bs) h =
       | true ↦ λ e. (from-put key (key b) a bs (le_of_lt (key b) (key a) e) h.0, sorts-put key a bs h.1)
       | false ↦ λ e.
           let low = le_of_not_lt (key b) (key a) e in
-          ((low, from-lower key (key a) (key b) bs low h.0), h)
+          ((low, from_lower key (key a) (key b) bs low h.0), h)
     ] refl
 
 pub sorts : {X : Type 0} (key : X → List ℕ) (xs : List X) → Sorts key (in_order key xs)
@@ -147,9 +144,6 @@ same_members key (x ∷ xs) (y ∷ ys) a b p q =
     ap (λ z. z ∷ xs) same ∙ ap (λ zs. y ∷ zs) (same_members key xs ys a.1 b.1 (inner key x y xs ys a.0 same p) (inner key y x ys xs b.0 (sym same) q))
 
 -- how often a key stands
-
-exchange : (a b c : ℕ) → a + (b + c) ≡ b + (a + c)
-exchange a b c = omega arith
 
 keyed-put : {X : Type 0} (key : X → List ℕ) (k : List ℕ) (a : X) (xs : List X) → times_keyed key k (put_in_order key a xs) ≡ one_if (key_eq (key a) k) + times_keyed key k xs
 keyed-put key k a [] = refl

@@ -11,10 +11,12 @@ use Rattle.ds_desc.specs.Contains.{contains}
 use Rattle.ds_kind.specs.Reach.{Reach, At, Over, extent_of}
 use Rattle.ds_kind.specs.Request.{cut_to, reach_of, span_of}
 use Rattle.ds_kind.specs.declared.batch.Item.{Item}
+use Rattle.ds_kind.specs.CutReach.{cut_reach}
+use Rattle.ds_kind.proofs.RequestFacts.{reach_cut}
 use Rattle.ds_cover.specs.Cuts.{cut_item, cut_by, within, from, up_to, cut_items, rest_items, seek_from, seek_key}
 use Rattle.ds_cover.specs.Items.{IsOneOf}
 use Rattle.ds_cover.specs.Measures.{span_left, left_in, IsSpan, AllSpans}
-use Rattle.ds_cover.proofs.Cutting.{cut_reach, reach-cut, seek-near}
+use Rattle.ds_cover.proofs.Cutting.{seek-near}
 use Rattle.ds_cover.proofs.Measuring.{keeps-left, left-append, max-key, min-key}
 
 -- the item whose start or end the seek key is
@@ -93,7 +95,7 @@ met-left span i keys its some =
     let y = within span (span_of i.request) in
     subst (λ t. 0 < left_in (cond t (record i { request = cut_to y.start y.end i.request } ∷ []) [])) (sym some)
     (plus_none (span_left (span_of (cut_to y.start y.end i.request)))
-    (subst (λ reach. 0 < span_left (extent_of reach)) (sym (reach-cut y.start y.end i.request)) (reach-left span (reach_of i.request) keys its some)))
+    (subst (λ reach. 0 < span_left (extent_of reach)) (sym (reach_cut y.start y.end i.request)) (reach-left span (reach_of i.request) keys its some)))
 
 some-cut : (span : Extent) (i : Item) (block : List Item) → IsOneOf i block → 0 < left_in (cut_item (within span) i) → 0 < left_in (cut_items span block)
 some-cut span i [] there h = absurd there
@@ -170,7 +172,7 @@ cut-spans f keep (i ∷ is) all =
     let cut = record i { request = cut_to (f x).start (f x).end i.request } in
     elim (key_lt (f x).start (f x).end) as (λ t. key_lt (f x).start (f x).end ≡ t → AllSpans (cond t (cut ∷ []) [] ++ cut_by f is)) [
       | true ↦ λ some. (
-        subst (λ reach. IsSpan (extent_of reach)) (sym (reach-cut (f x).start (f x).end i.request)) (reach-span f keep (reach_of i.request) all.0 some),
+        subst (λ reach. IsSpan (extent_of reach)) (sym (reach_cut (f x).start (f x).end i.request)) (reach-span f keep (reach_of i.request) all.0 some),
         cut-spans f keep is all.1,
       )
       | false ↦ λ none. cut-spans f keep is all.1

@@ -10,11 +10,12 @@ use Rattle.ds_base.specs.declared.value.Dir.TheVariants.{Forward, Reverse}
 use Rattle.ds_kind.specs.Reach.{At, Over, extent_of}
 use Rattle.ds_kind.specs.Request.{cut_to, reach_of, span_of}
 use Rattle.ds_kind.specs.declared.batch.Item.{Item}
+use Rattle.ds_kind.specs.CutReach.{cut_reach}
+use Rattle.ds_kind.proofs.RequestFacts.{reach_cut}
 use Rattle.ds_cover.specs.Clips.{clip, passes}
 use Rattle.ds_cover.specs.Cuts.{cut_item, within, from, up_to, cut_items, rest_items, AllNear}
 use Rattle.ds_cover.specs.Measures.{span_left, left_in, IsSpan, AllSpans}
 use Rattle.ds_cover.proofs.Clipping.{point-in, point-out}
-use Rattle.ds_cover.proofs.Cutting.{cut_reach, reach-cut}
 use Rattle.ds_cover.proofs.Tests.{and_true, zero_plus, plus_zero}
 
 -- numbers of keys
@@ -93,7 +94,7 @@ over-left f i s e is p q =
     ∙ elim (key_lt y.start y.end) as (λ t. key_lt y.start y.end ≡ t → left_in (cond t (record i { request = cut_to y.start y.end i.request } ∷ []) []) ≡ span_left y) [
       | true ↦ λ h.
           plus_zero _
-          ∙ ap (λ reach. span_left (extent_of reach)) (reach-cut y.start y.end i.request)
+          ∙ ap (λ reach. span_left (extent_of reach)) (reach_cut y.start y.end i.request)
           ∙ ap (λ reach. span_left (extent_of (cut_reach y.start y.end reach))) (sym is)
       | false ↦ λ h. nothing-left y.start y.end p q h
     ] refl

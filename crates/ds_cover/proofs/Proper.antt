@@ -1,5 +1,5 @@
 -- Items with proper spans, and spans of keys: each follows from the other, where the keys are keys.
-use Rattle.std.proofs.Common.{◌≡◌, ℕ, ◌≤◌, true, false, not, List, [], ◌∷◌, length, refl, sym, ◌∙◌, length-append, nat_le, Bool, arith, cond, ◌++◌, subst}
+use Rattle.std.proofs.Common.{◌≡◌, ℕ, ◌≤◌, true, false, List, [], ◌∷◌, length, refl, sym, ◌∙◌, length-append, nat_le, arith, cond, ◌++◌, subst}
 use Rattle.std.proofs.lemmas.Bool.Decides.{nat_tests}
 use Rattle.ds_base.specs.Order.{key_lt, after, bound, Extent}
 use Rattle.ds_base.proofs.KeyOrder.{IsKey-after, after-above, below-after}
@@ -8,10 +8,12 @@ use Rattle.ds_kind.specs.Asks.{is_proper, has_proper_span}
 use Rattle.ds_kind.specs.Reach.{Reach, At, Over, extent_of}
 use Rattle.ds_kind.specs.Request.{reach_of, cut_to, span_of}
 use Rattle.ds_kind.specs.declared.batch.Item.{Item}
+use Rattle.ds_kind.specs.CutReach.{cut_reach}
+use Rattle.ds_kind.proofs.RequestFacts.{reach_cut}
 use Rattle.ds_base.specs.declared.value.Dir.{Dir}
 use Rattle.ds_base.specs.declared.value.Dir.TheVariants.{Forward, Reverse}
+use Rattle.ds_base.proofs.TestFacts.{not_false}
 use Rattle.ds_cover.specs.Cuts.{cut_by, from, up_to, rest_items}
-use Rattle.ds_cover.proofs.Cutting.{cut_reach, reach-cut}
 use Rattle.ds_cover.specs.Items.{AreProper}
 use Rattle.ds_cover.specs.Measures.{AreKeys, IsSpan, AllSpans}
 
@@ -22,10 +24,6 @@ proper-span (Over s e) keys proper = record { start = keys.0; end = keys.1; some
 
 length-after : (k : List ℕ) → length (after k) ≤ 65 → nat_le (length k) 64 ≡ true
 length-after k h = let one = length-append k (0 ∷ []) in let short : length k ≤ 64 = omega (arith, one, h) in grind (arith, nat_tests, short)
-
-not_false : (t : Bool) → not t ≡ false → t ≡ true
-not_false true h = refl
-not_false false h = sym h
 
 pub span-proper : (r : Reach) → IsSpan (extent_of r) → is_proper r ≡ true
 span-proper (At k) its =
@@ -49,7 +47,7 @@ cuts-proper f (i ∷ is) h =
     elim (key_lt (f x).start (f x).end) as (λ t. key_lt (f x).start (f x).end ≡ t → AreProper (cond t (cut ∷ []) [] ++ cut_by f is)) [
       | true ↦ λ some.
           and_both _ _
-          (subst (λ r. is_proper r ≡ true) (sym (reach-cut (f x).start (f x).end i.request)) (cut-proper (f x).start (f x).end (reach_of i.request) (and_first _ _ h) some))
+          (subst (λ r. is_proper r ≡ true) (sym (reach_cut (f x).start (f x).end i.request)) (cut-proper (f x).start (f x).end (reach_of i.request) (and_first _ _ h) some))
           (cuts-proper f is (and_second (has_proper_span i.request) _ h))
       | false ↦ λ none. cuts-proper f is (and_second (has_proper_span i.request) _ h)
     ] refl

@@ -5,6 +5,7 @@ use Rattle.std.proofs.lemmas.List.Sorted.{All-permutation, sum_by-IsPermutation,
 use Rattle.std.proofs.lemmas.List.Sums.{sum_by-cons}
 use Rattle.std.specs.List.{All, flat_map, sum_by}
 use Rattle.std.specs.List.Sorted.{IsPermutation}
+use Rattle.std.proofs.lemmas.List.{nil_from_length}
 use Rattle.ds_kind.specs.declared.batch.Item.{Item}
 use Rattle.ds_cover.specs.Coverage.{holds_at, positions_at, AllNone, Shares, Covered}
 use Rattle.ds_cover.specs.Laws.{joined}
@@ -40,17 +41,13 @@ shares-sum ws (b ∷ bs) h =
       | inr g ↦ let e : length b ≡ 0 = ap length g.0 in omega (arith, sum_by-cons (λ b. length b) b bs, e, shares-sum ws bs g.1)
     ]
 
-length_zero : {X : Type 0} (xs : List X) → length xs ≡ 0 → xs ≡ []
-length_zero [] h = refl
-length_zero (x ∷ xs) h = grind (arith, h)
-
 all-none : (bs : List (List ℕ)) → sum_by (λ b. length b) bs ≡ 0 → AllNone bs
 all-none [] h = tt
 all-none (b ∷ bs) h =
-    (length_zero b (omega (arith, h, sum_by-cons (λ b. length b) b bs)), all-none bs (omega (arith, h, sum_by-cons (λ b. length b) b bs)))
+    (nil_from_length b (omega (arith, h, sum_by-cons (λ b. length b) b bs)), all-none bs (omega (arith, h, sum_by-cons (λ b. length b) b bs)))
 
 shares-back : (ws : List ℕ) (bs : List (List ℕ)) → All (AllOrNone ws) bs → sum_by (λ b. length b) bs ≡ length ws → Shares ws bs
-shares-back ws [] each h = length_zero ws (sym h)
+shares-back ws [] each h = nil_from_length ws (sym h)
 shares-back ws (b ∷ bs) each h =
     elim (All-head (AllOrNone ws) b bs each) [
       | inl e ↦

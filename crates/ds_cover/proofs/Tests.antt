@@ -1,20 +1,7 @@
--- Small facts of tests, sums and keys that the proofs of coverage share.
-use Rattle.std.proofs.Common.{◌≡◌, ℕ, ◌+◌, Bool, true, false, not, ◌&&◌, refl, sym, ap, ◌∙◌, List, arith}
-use Rattle.ds_base.specs.Order.{key_le}
-use Rattle.ds_base.proofs.KeyOrder.{key_lt-irrefl, key_le-not_lt}
-
-pub never : {G : Type 0} → false ≡ true → G
-never h = cc
-
-pub not_both : {G : Type 0} (t : Bool) → t ≡ true → t ≡ false → G
-not_both t p q = never (sym q ∙ p)
-
--- tests that hold together are one test
-pub same_test : (a b : Bool) → (a ≡ true → b ≡ true) → (b ≡ true → a ≡ true) → a ≡ b
-same_test true true p q = refl
-same_test true false p q = sym (p refl)
-same_test false true p q = q refl
-same_test false false p q = refl
+-- Small facts of tests and sums that the proofs of coverage share.
+use Rattle.std.proofs.Common.{◌≡◌, ℕ, ◌+◌, Bool, true, false, ◌&&◌, refl, arith}
+pub use Rattle.ds_base.proofs.KeyFacts.{le_itself}
+pub use Rattle.ds_base.proofs.TestFacts.{never, not_both, same_test}
 
 pub and_true : (a : Bool) → (a && true) ≡ a
 and_true true = refl
@@ -30,5 +17,5 @@ zero_plus n = omega arith
 pub plus_zero : (n : ℕ) → n + 0 ≡ n
 plus_zero n = omega arith
 
-pub le_itself : (k : List ℕ) → key_le k k ≡ true
-le_itself k = key_le-not_lt k k ∙ ap not (key_lt-irrefl k)
+pub exchange : (a b c : ℕ) → a + (b + c) ≡ b + (a + c)
+exchange a b c = omega arith

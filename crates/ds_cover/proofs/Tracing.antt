@@ -4,16 +4,18 @@ use Rattle.ds_base.proofs.OrderedFacts.{le_trans}
 use Rattle.ds_base.specs.Order.{Extent, key_lt}
 use Rattle.ds_base.specs.declared.value.Dir.{Dir}
 use Rattle.ds_base.specs.declared.value.Dir.TheVariants.{Forward, Reverse}
+use Rattle.ds_base.proofs.KeyFacts.{max_second, min_second}
 use Rattle.ds_kind.specs.Reach.{Reach, At, Over, extent_of}
 use Rattle.ds_kind.specs.Request.{cut_to, reach_of, span_of}
 use Rattle.ds_kind.specs.declared.batch.Item.{Item}
 use Rattle.ds_kind.specs.declared.request.Request.{Request}
 use Rattle.ds_kind.specs.declared.request.Request.TheVariants.{Get, Scan, ReverseScan, Put, ConditionalPut, InitPut, Increment, Delete, DeleteRange, EndTxn, QueryIntent, ResolveIntent, ResolveIntentRange, AdminSplit, AdminTransferLease}
+use Rattle.ds_kind.specs.CutReach.{cut_reach}
+use Rattle.ds_kind.proofs.RequestFacts.{reach_cut, cut_whole}
 use Rattle.ds_cover.specs.Cuts.{cut_by, within, from, up_to, cut_items, rest_items}
 use Rattle.ds_cover.specs.Items.{PositionsRise, IsOneOf}
 use Rattle.ds_cover.specs.Origins.{LiesIn, IsCut, CutsOf}
 use Rattle.ds_cover.proofs.Covering.{after-in}
-use Rattle.ds_cover.proofs.Cutting.{cut_reach, reach-cut, max_right, min_right}
 use Rattle.ds_cover.proofs.Tests.{le_itself}
 
 -- requests cut twice, and cut to their own spans
@@ -53,21 +55,7 @@ cut-own s e (AdminSplit a) = refl
 cut-own s e (AdminTransferLease a) = refl
 
 pub uncut : (r : Request) → r ≡ cut_to (span_of r).start (span_of r).end r
-uncut (Get a) = refl
-uncut (Scan a) = refl
-uncut (ReverseScan a) = refl
-uncut (Put a) = refl
-uncut (ConditionalPut a) = refl
-uncut (InitPut a) = refl
-uncut (Increment a) = refl
-uncut (Delete a) = refl
-uncut (DeleteRange a) = refl
-uncut (EndTxn a) = refl
-uncut (QueryIntent a) = refl
-uncut (ResolveIntent a) = refl
-uncut (ResolveIntentRange a) = refl
-uncut (AdminSplit a) = refl
-uncut (AdminTransferLease a) = refl
+uncut r = sym (cut_whole r)
 
 -- spans that lie in others
 
@@ -82,20 +70,20 @@ abbrev Narrows : (Extent → Extent) → Type 0
 Narrows f = (x : Extent) → LiesIn (f x) x
 
 within-narrows : (span : Extent) → Narrows (within span)
-within-narrows span x = (max_right span.start x.start, min_right span.end x.end)
+within-narrows span x = (max_second span.start x.start, min_second span.end x.end)
 
 from-narrows : (m : List ℕ) → Narrows (from m)
-from-narrows m x = (max_right m x.start, le_itself x.end)
+from-narrows m x = (max_second m x.start, le_itself x.end)
 
 up_to-narrows : (m : List ℕ) → Narrows (up_to m)
-up_to-narrows m x = (le_itself x.start, min_right m x.end)
+up_to-narrows m x = (le_itself x.start, min_second m x.end)
 
 reach-in : (f : Extent → Extent) → Narrows f → (reach : Reach) → LiesIn (extent_of (cut_reach (f (extent_of reach)).start (f (extent_of reach)).end reach)) (extent_of reach)
 reach-in f h (At k) = itself-in (extent_of (At k))
 reach-in f h (Over s e) = h (record { start = s; end = e })
 
 request-in : (f : Extent → Extent) → Narrows f → (r : Request) → LiesIn (span_of (cut_to (f (span_of r)).start (f (span_of r)).end r)) (span_of r)
-request-in f h r = subst (λ reach. LiesIn (extent_of reach) (span_of r)) (sym (reach-cut (f (span_of r)).start (f (span_of r)).end r)) (reach-in f h (reach_of r))
+request-in f h r = subst (λ reach. LiesIn (extent_of reach) (span_of r)) (sym (reach_cut (f (span_of r)).start (f (span_of r)).end r)) (reach-in f h (reach_of r))
 
 -- one item
 

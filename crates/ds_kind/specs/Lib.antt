@@ -1,5 +1,6 @@
 pub mod Asks
 pub mod Bodies
+pub mod CutReach
 pub mod Filled
 pub mod Flags
 pub mod Groups

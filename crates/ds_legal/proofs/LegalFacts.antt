@@ -4,7 +4,7 @@ use Rattle.std.proofs.lemmas.Bool.Decides.{nat_tests}
 use Rattle.std.specs.List.{list_all, list_any, position, position_or_len}
 use Rattle.std.proofs.lemmas.List.Recursion.{is_position_or_len}
 use Rattle.std.specs.Option.{is_some, is_none}
-use Rattle.ds_base.proofs.SmallFacts.{and_both}
+use Rattle.ds_base.proofs.SmallFacts.{and_both, ge_of}
 use Rattle.ds_kind.specs.declared.batch.Batch.{Batch}
 use Rattle.ds_kind.specs.declared.illegal.Illegal.{Illegal}
 use Rattle.ds_kind.specs.Asks.{has_proper_span, is_end, needs_txn, is_get_or_scan, knows_limit, acts}
@@ -71,16 +71,13 @@ all_pass p xs h = not_any p xs (none_passes (λ x. not (p x)) xs h)
 some_length : (n : ℕ) → (n == 0) ≡ false → 0 < n
 some_length n h = grind (arith, nat_tests)
 
-low_length : (n m : ℕ) → nat_lt m n ≡ false → n ≤ m
-low_length n m h = grind (arith, nat_tests)
-
 of_txn : {X : Type 0} (o : Option X) (c : Bool) → (not c && is_none o) ≡ false → c ≡ false → is_some o ≡ true
 of_txn None true h e = sym e
 of_txn None false h e = sym h
 of_txn (Some x) c h e = refl
 
 split_low : (a b : Bool) (n : ℕ) → (a && b && nat_lt 1 n) ≡ false → a ≡ true → b ≡ true → n ≤ 1
-split_low a b n h p q = low_length n 1 (ap (λ t. t && nat_lt 1 n) (sym (and_both a b p q)) ∙ h)
+split_low a b n h p q = ge_of 1 n (ap (λ t. t && nat_lt 1 n) (sym (and_both a b p q)) ∙ h)
 
 pub legal_of : (b : Batch) → first_illegal b ≡ None → IsLegal b
 unfolding empty too_many bad_span end_txn_place needs_a_txn inconsistent_txn inconsistent_write limit_kind limit_mixed limit_order no_txn_parts
@@ -99,7 +96,7 @@ legal_of b h =
     let rs = b.requests in
     record {
       some = some_length (length rs) (no_reason _ _ h1.0);
-      few = low_length (length rs) 256 (no_reason _ _ h2.0);
+      few = ge_of 256 (length rs) (no_reason _ _ h2.0);
       spans = all_pass has_proper_span rs (no_place _ _ _ h3.0 refl);
       end_last = none_passes is_end (before_last rs) (no_place _ _ _ h4.0 refl);
       txn = λ t. none_passes needs_txn rs (no_place _ _ _ h5.0 t);

@@ -1,6 +1,7 @@
 -- A mix decides what fits all of its requests.
 use Rattle.std.proofs.Common.{◌≡◌, Bool, true, false, not, ◌&&◌, ◌||◌, cond, List, [], ◌∷◌, ◌++◌, refl, sym, ap, ◌∙◌}
 use Rattle.std.specs.List.{list_any, list_all}
+use Rattle.ds_base.proofs.TestFacts.{and_pairs}
 use Rattle.ds_kind.specs.Flags.{fit, same}
 use Rattle.ds_kind.specs.declared.flags.Flags.{Flags}
 use Rattle.ds_kind.specs.declared.request.Request.{Request}
@@ -9,17 +10,11 @@ use Rattle.ds_kind.specs.Parts.{may_join}
 use Rattle.ds_legal.specs.declared.mix.Mix.{Mix}
 use Rattle.ds_legal.specs.Mix.{mix_of, mix_with, mix_fits, reads_only, writes, goes_forward, goes_back}
 
-shuffle : (a b c d : Bool) → ((a && b) && (c && d)) ≡ ((a && c) && (b && d))
-shuffle true true c d = refl
-shuffle true false true d = refl
-shuffle true false false d = refl
-shuffle false b c d = refl
-
 shuffle_four : (a b c d p q r s : Bool) → ((((a && p) && (b && q)) && (c && r)) && (d && s)) ≡ ((((a && b) && c) && d) && (((p && q) && r) && s))
 shuffle_four a b c d p q r s =
-    ap (λ t. (t && (c && r)) && (d && s)) (shuffle a p b q)
-    ∙ ap (λ t. t && (d && s)) (shuffle (a && b) (p && q) c r)
-    ∙ shuffle ((a && b) && c) ((p && q) && r) d s
+    ap (λ t. (t && (c && r)) && (d && s)) (and_pairs a p b q)
+    ∙ ap (λ t. t && (d && s)) (and_pairs (a && b) (p && q) c r)
+    ∙ and_pairs ((a && b) && c) ((p && q) && r) d s
 
 not_or : (a b : Bool) → not (a || b) ≡ (not a && not b)
 not_or true b = refl

@@ -20,9 +20,9 @@ use Rattle.ds_rule.specs.Pieces.{Each}
 use Rattle.ds_rule.specs.Plain.{is_pending}
 use Rattle.ds_rule.specs.StandsFor.{Ready}
 use Rattle.ds_rule.specs.Steady.{Steady}
-use Rattle.ds_rule.proofs.Recorded.{Pends}
-use Rattle.ds_rule.proofs.Steadiness.{quiet-steady}
-use Rattle.ds_rule.proofs.WholeGathered.{whole-gathered}
+use Rattle.ds_law.proofs.Recorded.{Pends}
+use Rattle.ds_law.proofs.Steadiness.{quiet-steady}
+use Rattle.ds_law.proofs.WholeGathered.{whole-gathered}
 use Rattle.ds_script.specs.Journals.{Asks, BatchGathers, InOnePiece, accepted_in, sees_one_state}
 use Rattle.ds_send.specs.Sent.{DidOnce, IsWholeSendable, PlainIf, is_whole}
 use Rattle.ds_replay.specs.Causes.{BatchCause, SentCause}

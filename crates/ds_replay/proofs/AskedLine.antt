@@ -21,7 +21,7 @@ use Rattle.ds_rule.specs.Law.{IsGiven, MayAct}
 use Rattle.ds_rule.specs.Plain.{Answered, after_events}
 use Rattle.ds_rule.specs.StandsFor.{StandsFor, Ready, after_made}
 use Rattle.ds_rule.specs.Steady.{Steady}
-use Rattle.ds_rule.proofs.Recorded.{Pends}
+use Rattle.ds_law.proofs.Recorded.{Pends}
 use Rattle.ds_rule.specs.World.{World}
 use Rattle.ds_script.specs.declared.line.Line.TheVariants as lines
 use Rattle.ds_script.specs.Journals.{Asks, Played, JournalTurn, GatherTurn, answered_asks}

@@ -18,7 +18,7 @@ use Rattle.ds_rule.specs.Pieces.{Each}
 use Rattle.ds_rule.specs.Plain.{Answered, asker_after, count_numbered, if_of_txn}
 use Rattle.ds_rule.specs.StandsFor.{StandsFor, Ready}
 use Rattle.ds_rule.specs.Steady.{Steady}
-use Rattle.ds_rule.proofs.Recorded.{Pends}
+use Rattle.ds_law.proofs.Recorded.{Pends}
 use Rattle.ds_script.specs.declared.line.Line.TheVariants as lines
 use Rattle.ds_script.specs.Journals.{Played, answered_asks}
 use Rattle.ds_send.specs.Asked.{asker_of}

@@ -14,9 +14,9 @@ use Rattle.ds_rule.specs.Path.{Path}
 use Rattle.ds_rule.specs.Pieces.{Each}
 use Rattle.ds_rule.specs.StandsFor.{Ready}
 use Rattle.ds_rule.specs.Steady.{Steady}
-use Rattle.ds_rule.proofs.NeverEnded.{never-ended}
-use Rattle.ds_rule.proofs.Recorded.{Pends}
-use Rattle.ds_rule.proofs.Steadiness.{AllTaken, all-taken, never-used-up}
+use Rattle.ds_law.proofs.NeverEnded.{never-ended}
+use Rattle.ds_law.proofs.Recorded.{Pends}
+use Rattle.ds_law.proofs.Steadiness.{AllTaken, all-taken, never-used-up}
 use Rattle.ds_replay.specs.Comes.{MayCome}
 
 -- the call met nothing but its own steps, in a steady world, and its transaction is pending

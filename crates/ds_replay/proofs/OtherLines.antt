@@ -16,9 +16,9 @@ use Rattle.ds_rule.specs.Close.{with_begin, closed, close_status, settle_cells}
 use Rattle.ds_rule.specs.Moves.{moved}
 use Rattle.ds_rule.specs.Plain.{after_event}
 use Rattle.ds_rule.specs.StandsFor.{StandsFor, open_stamp}
-use Rattle.ds_rule.proofs.Lifetime.{first-stands, begin-stands, close-stands, close-says}
-use Rattle.ds_rule.proofs.Standing.{stands-moved}
-use Rattle.ds_rule.proofs.Steadiness.{begin-steady, close-steady, first-steady, write-steady}
+use Rattle.ds_law.proofs.Lifetime.{first-stands, begin-stands, close-stands, close-says}
+use Rattle.ds_law.proofs.Standing.{stands-moved}
+use Rattle.ds_law.proofs.Steadiness.{begin-steady, close-steady, first-steady, write-steady}
 use Rattle.ds_script.specs.declared.line.Line.TheVariants as lines
 use Rattle.ds_script.specs.declared.line.Numbered.{Numbered}
 use Rattle.ds_script.specs.Runs.{has_entry, TakesEntry}

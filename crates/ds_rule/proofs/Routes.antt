@@ -45,6 +45,10 @@ le_itself k = not_false (key_lt-irrefl k)
     not_false : key_lt k k ≡ false → key_le k k ≡ true
     not_false h = key_le-not_lt k k ∙ ap not h
 
+pub least : (k : List ℕ) → key_le [] k ≡ true
+least [] = refl
+least (x ∷ xs) = refl
+
 -- all contents rise
 pub contents-ascend : (s : List ℕ) (rs : List Range) → Tiles s rs → Ascends key_of (contents rs)
 contents-ascend s [] t = tt

@@ -1,12 +1,11 @@
 -- The world: its ranges, and what a lookup answers.
-use Rattle.std.specs.Prelude.{◌≡◌, ℕ, ◌+◌, Bool, true, false, ◌&&◌, List, [], ◌∷◌, ◌++◌, map, take, find, reverse, Option, Some, None, if◌then◌else◌}
-use Rattle.ds_base.specs.Order.{key_lt, key_le, holds, bound}
+use Rattle.std.specs.Prelude.{◌≡◌, ℕ, Bool, true, List, [], ◌∷◌, ◌++◌, ◌==◌, map, take, find, reverse, Option, Some, None, if◌then◌else◌}
+use Rattle.ds_base.specs.Order.{key_lt, holds, bound}
 use Rattle.ds_base.specs.Ordered.{Ascends}
 use Rattle.ds_base.specs.declared.value.Dir.{Dir}
 use Rattle.ds_base.specs.declared.value.Dir.TheVariants.{Forward, Reverse}
 use Rattle.ds_desc.specs.Contains.{contains}
 use Rattle.ds_desc.specs.declared.desc.RangeDesc.{RangeDesc}
-use Rattle.ds_desc.specs.declared.desc.Lease.{Lease}
 use Rattle.ds_desc.specs.declared.desc.Info.{Info}
 use Rattle.ds_kind.specs.declared.batch.Piece.{Piece}
 use Rattle.ds_cell.specs.Content.{Content}

@@ -1,18 +1,19 @@
 //! The forms of lines: what the JSON of one line says.
 ghost use Rattle.std.specs.Prelude.{◌≡◌, [], option_map};
 ghost use Rattle.serde_json.specs.View.{view};
-ghost use Rattle.ds_fields.specs.Fault.{Reads};
+ghost use Rattle.ds_fields.specs.Fault.{Reads, map3};
 ghost use Rattle.ds_fields.specs.Members.{optional};
 ghost use Rattle.ds_fields.specs.Lists.{list_of};
 ghost use Rattle.ds_fields.specs.Scalars.{number_of};
 ghost use Rattle.ds_script.specs.Events.{timed_of};
-ghost use Rattle.ds_script.specs.Forms.{cluster_of, range_of, begin_of, close_of, restart_of, at_of, block_of, asked_of, batch_of, line_by, form_of};
+ghost use Rattle.ds_script.specs.Forms.{cluster_of, range, range_of, begin_of, close_of, restart_of, at_of, block_of, asked_of, batch_of, line_by, form_of};
 
 use crate::event::EventReader;
 use crate::happening::happening_of;
 use crate::line::Line;
 use crate::request::RequestReader;
 use ds_base::{Copies, Key, Stamp};
+use ds_desc::Nodes;
 use ds_fields::{
     FaultKind, LineFault, Reader, byte_of, flag_of, has_only, key_of, list_of, member, nodes_of,
     op_of, optional_member, small_if_there, small_list_of, whole_of,
@@ -81,14 +82,21 @@ impl Reader for RangeReader {
         let start = key_of(alloc, member(json, "start")?)?;
         let nodes = nodes_of(alloc, member(json, "nodes")?)?;
         let lease = byte_of(member(json, "lease")?)?;
-        match (start, nodes, lease) {
-            (Some(start), Some(nodes), Some(lease)) => Ok(Some(ClusterRange {
-                start,
-                nodes,
-                lease,
-            })),
-            _ => Ok(None),
-        }
+        Ok(range(start, nodes, lease))
+    }
+}
+
+/// The range of these, where each is within what its type can hold.
+fn range(start: Option<Key>, nodes: Option<Nodes>, lease: Option<u8>) -> Option<ClusterRange>
+    ensures { result ≡ map3 range start nodes lease }
+{
+    match (start, nodes, lease) {
+        (Some(start), Some(nodes), Some(lease)) => Some(ClusterRange {
+            start,
+            nodes,
+            lease,
+        }),
+        _ => None,
     }
 }
 

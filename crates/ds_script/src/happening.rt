@@ -1,8 +1,8 @@
 //! What can happen on a line of its own, and as an event beside a batch.
 ghost use Rattle.std.specs.Prelude.{◌≡◌, map};
 ghost use Rattle.serde_json.specs.View.{view};
-ghost use Rattle.ds_fields.specs.Fault.{Reads};
-ghost use Rattle.ds_script.specs.Happenings.{line_of, event_of, happening_of, write_of, split_of, merge_of, lease_of, move_of, stale_of, abort_of, arrive_of};
+ghost use Rattle.ds_fields.specs.Fault.{Reads, map3};
+ghost use Rattle.ds_script.specs.Happenings.{line_of, event_of, happening_of, write_of, split_of, merge_of, lease_of, move_of, stale_of, abort_of, arrive_of, write_at};
 
 use crate::line::Line;
 use ds_base::{Key, Stamp, Value};
@@ -114,13 +114,20 @@ fn write_of(alloc: Global, json: &Json, common: &[&str]) -> Result<Option<Happen
     let key = key_of(alloc, member(json, "key")?)?;
     let stamp = whole_of(member(json, "stamp")?)?;
     let value = value_or_null_of(alloc, member(json, "value")?)?;
+    Ok(write_at(key, stamp, value))
+}
+
+/// The write of these, where each is within what its type can hold.
+fn write_at(key: Option<Key>, stamp: Option<u64>, value: Option<Option<Value>>) -> Option<Happening>
+    ensures { result ≡ map3 write_at key stamp value }
+{
     match (key, stamp, value) {
-        (Some(key), Some(stamp), Some(value)) => Ok(Some(Happening::Write {
+        (Some(key), Some(stamp), Some(value)) => Some(Happening::Write {
             key,
             stamp: Stamp(stamp),
             value,
-        })),
-        _ => Ok(None),
+        }),
+        _ => None,
     }
 }
 

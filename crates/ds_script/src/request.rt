@@ -1,8 +1,8 @@
 //! The requests of a batch line: each is an object of one member, whose name says the kind.
 ghost use Rattle.std.specs.Prelude.{◌≡◌};
 ghost use Rattle.serde_json.specs.View.{view};
-ghost use Rattle.ds_fields.specs.Fault.{Reads};
-ghost use Rattle.ds_script.specs.Requests.{request_of, request_by, keys_of, key_and_value_of, key_and_number_of, put_of, init_put_of, conditional_put_of, increment_of, end_of, query_intent_of, resolve_of, resolve_range_of, admin_lease_of, scan_of, reverse_scan_of, delete_range_of, get_of, delete_of, admin_split_of};
+ghost use Rattle.ds_fields.specs.Fault.{Reads, map2, map4};
+ghost use Rattle.ds_script.specs.Requests.{request_of, request_by, keys_of, key_and_value_of, key_and_number_of, put_of, init_put_of, conditional_put_of, increment_of, end_of, query_intent_of, resolve_of, resolve_range_of, admin_lease_of, scan_of, reverse_scan_of, delete_range_of, get_of, delete_of, admin_split_of, conditional_put, end};
 
 use ds_base::{Copies, Key, Seq, TxnNo, Value};
 use ds_fields::{
@@ -155,16 +155,28 @@ fn conditional_put_of(alloc: Global, json: &Json) -> Result<Option<Request>, Lin
     let value = value_of(alloc, member(json, "value")?)?;
     let expect = value_or_null_of(alloc, member(json, "expect")?)?;
     let allow_absent = flag_of(optional_member(json, "allow_absent"), false)?;
+    Ok(conditional_put(key, value, expect, allow_absent))
+}
+
+/// The put of these, where each is within what its type can hold.
+fn conditional_put(
+    key: Option<Key>,
+    value: Option<Value>,
+    expect: Option<Option<Value>>,
+    allow_absent: Option<bool>,
+) -> Option<Request>
+    ensures { result ≡ map4 conditional_put key value expect allow_absent }
+{
     match (key, value, expect, allow_absent) {
         (Some(key), Some(value), Some(expect), Some(allow_absent)) => {
-            Ok(Some(Request::ConditionalPut(ConditionalPutArgs {
+            Some(Request::ConditionalPut(ConditionalPutArgs {
                 key,
                 value,
                 expect,
                 allow_absent,
-            })))
+            }))
         }
-        _ => Ok(None),
+        _ => None,
     }
 }
 
@@ -224,15 +236,28 @@ fn end_of(alloc: Global, anchor: &Key, json: &Json) -> Result<Option<Request>, L
     let one_phase = flag_of(optional_member(json, "one_phase"), false)?;
     let parallel = flag_of(optional_member(json, "parallel"), false)?;
     let key = anchor.copy(alloc)?;
+    Ok(end(alloc, key, commit, one_phase, parallel))
+}
+
+/// The end with these flags, where both are within what their type can hold.
+fn end(
+    alloc: Global,
+    key: Key,
+    commit: bool,
+    one_phase: Option<bool>,
+    parallel: Option<bool>,
+) -> Option<Request>
+    ensures { result ≡ map2 (end key commit) one_phase parallel }
+{
     match (one_phase, parallel) {
-        (Some(one_phase), Some(parallel)) => Ok(Some(Request::EndTxn(EndTxnArgs {
+        (Some(one_phase), Some(parallel)) => Some(Request::EndTxn(EndTxnArgs {
             key,
             commit,
             one_phase,
             parallel,
             in_flight: Flights::new(alloc),
-        }))),
-        _ => Ok(None),
+        })),
+        _ => None,
     }
 }
 

@@ -2,15 +2,11 @@
 use Rattle.std.proofs.Common.{◌≡◌, ℕ, zero, suc, ◌+◌, ◌<◌, true, List, [], ◌∷◌, ◌++◌, length, take, get_or, None, inl, inr, refl, sym, ap, ◌∙◌, subst, append_assoc, arith}
 use Rattle.std.specs.List.{list_all}
 use Rattle.std.proofs.lemmas.List.{take_more}
-use Rattle.ds_base.specs.Order.{key_lt}
-use Rattle.ds_base.proofs.KeyOrder.{below-after}
 use Rattle.ds_base.proofs.SmallFacts.{and_first, and_second}
 use Rattle.ds_rule.proofs.Eachs.{each-append, each-left}
-use Rattle.ds_kind.specs.Asks.{has_proper_span, is_proper}
-use Rattle.ds_kind.specs.Reach.{Reach, At, Over, extent_of}
+use Rattle.ds_kind.specs.Asks.{has_proper_span}
 use Rattle.ds_kind.specs.Parts.{requests_of}
-use Rattle.ds_kind.specs.Request.{span_of, reach_of}
-use Rattle.ds_kind.specs.declared.request.Request.{Request}
+use Rattle.ds_kind.specs.Request.{span_of}
 use Rattle.ds_kind.specs.declared.batch.Item.{Item}
 use Rattle.ds_kind.specs.declared.reply.Body.{Body}
 use Rattle.ds_kind.specs.declared.reply.Failure.{Failure}
@@ -26,8 +22,8 @@ use Rattle.ds_rule.specs.Gathered.{Gathered}
 use Rattle.ds_rule.specs.Journal.{Happening, Accepted}
 use Rattle.ds_rule.specs.Law.{Did}
 use Rattle.ds_rule.specs.Pieces.{Each, IsOneOf, position_of}
-use Rattle.ds_rule.proofs.Gathering.{IsAtPosition, IsBelowPosition, joins-at, gathers-last, gathered-on, gathered-last}
-use Rattle.ds_rule.proofs.Trips.{trip-none, trip-then, then-added}
+use Rattle.ds_law.proofs.Gathering.{IsAtPosition, IsBelowPosition, joins-at, gathers-last, gathered-on, gathered-last}
+use Rattle.ds_law.proofs.Trips.{trip-none, trip-then, then-added}
 use Rattle.ds_send.specs.Sent.{AnsweredBy, StoppedBy, FailedOn, outcome_of}
 use Rattle.ds_send.specs.declared.tries.Tries.{Tries}
 
@@ -135,14 +131,6 @@ all-failed q a b c done replies budget now f so by =
         last = then-added q a b c so.got by.got now.refused now.lost by.refused by.lost so.trip by.trip ∙ ap (λ hs. so.trip.path.added ++ hs) by.last.last ∙ sym (append_assoc so.trip.path.added by.last.before _);
       });
     }
-
-proper-reach : (r : Reach) → is_proper r ≡ true → key_lt (extent_of r).start (extent_of r).end ≡ true
-proper-reach (At k) h = below-after k
-proper-reach (Over s e) h = h
-
--- a proper span has a key
-pub proper-some : (r : Request) → has_proper_span r ≡ true → key_lt (span_of r).start (span_of r).end ≡ true
-proper-some r h = proper-reach (reach_of r) h
 
 -- the next request, by its place
 pub all-next : (q : Asking) (a b c : Stands) (items : List Item) (k : ℕ) (replies after : List Reply) (budget : ℕ) (now new : Tries) (i : Item) (body : Body) → Rises position_of items → k < length items → i ≡ get_or items k i → after ≡ replies ++ record { body = body; resume = None } ∷ [] → AllSoFar q a b (take k items) replies budget now → AnsweredBy q b c i (span_of i.request).start (span_of i.request).end now new body → AllSoFar q a c (take (k + 1) items) after budget new

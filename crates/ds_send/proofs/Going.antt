@@ -4,7 +4,8 @@ use Rattle.ds_base.specs.Order.{Extent, key_lt, key_le, min_key, holds, after, b
 use Rattle.ds_base.specs.declared.value.Dir.TheVariants.{Forward}
 use Rattle.ds_base.proofs.KeyOrder.{after-above, point-holds}
 use Rattle.ds_base.proofs.SmallFacts.{and_both, and_first, and_second, not_greater}
-use Rattle.ds_base.proofs.OrderedFacts.{le_of_lt, le_of_not_lt, lt_le_trans}
+use Rattle.ds_base.proofs.OrderedFacts.{lt_le_trans}
+use Rattle.ds_base.proofs.KeyFacts.{min_second}
 use Rattle.ds_desc.specs.declared.desc.Info.{Info}
 use Rattle.ds_desc.specs.declared.meta.Looked.TheVariants as Looked
 use Rattle.ds_kind.specs.Request.{cut_to, span_of}
@@ -25,10 +26,9 @@ use Rattle.ds_rule.specs.Journal.{Happening, Moved, Did, accepted_by, pairs}
 use Rattle.ds_rule.specs.Path.{GoesTo, holds_span}
 use Rattle.ds_rule.specs.Pieces.{PieceOf}
 use Rattle.ds_rule.specs.Gathered.{IsBody}
-use Rattle.ds_rule.proofs.Reading.{body-cut}
-use Rattle.ds_rule.proofs.Served.{First, first-served}
-use Rattle.ds_rule.proofs.Routes.{le_itself}
-use Rattle.ds_rule.proofs.Trips.{trip-step, trip-sent, sent-added}
+use Rattle.ds_law.proofs.Reading.{body-cut}
+use Rattle.ds_law.proofs.Served.{First, first-served}
+use Rattle.ds_law.proofs.Trips.{trip-step, trip-sent, sent-added}
 use Rattle.ds_send.specs.Sent.{FailedAt}
 
 first_of_list : (rs : List Reply) (r : Reply) → slice_get rs 0 ≡ Some r → (rest : List Reply) × (rs ≡ r ∷ rest)
@@ -42,27 +42,13 @@ none_of (x ∷ xs) h = cc
 pub min_above : (m e r : List ℕ) → key_lt m e ≡ true → key_lt m r ≡ true → key_lt m (min_key e r) ≡ true
 min_above m e r p q = elim (key_lt r e) as (λ t. key_lt m (cond t r e) ≡ true) [ true ↦ q | false ↦ p ]
 
-pub min_within : (e r : List ℕ) → key_le e e ≡ true → key_le (min_key e r) e ≡ true
-min_within e r same =
-    elim (key_lt r e) as (λ t. key_lt r e ≡ t → key_le (cond t r e) e ≡ true) [
-      | true ↦ λ h. le_of_lt r e h
-      | false ↦ λ h. same
-    ] refl
-
 pub below_bound : (k e : List ℕ) → key_lt k e ≡ true → IsKey e → key_lt k bound ≡ true
 below_bound k e h key = lt_le_trans k e bound h (not_greater _ key.low)
 
 -- a piece is for the range of its route
 
-min_in : (e r : List ℕ) → key_le (min_key e r) r ≡ true
-min_in e r =
-    elim (key_lt r e) as (λ t. key_lt r e ≡ t → key_le (cond t r e) r ≡ true) [
-      | true ↦ λ h. le_itself r
-      | false ↦ λ h. le_of_not_lt r e h
-    ] refl
-
 over-held : (m e : List ℕ) (s : Extent) → holds s.start s.end m ≡ true → holds_span s (record { start = m; end = min_key e s.end }) ≡ true
-over-held m e s h = and_both (key_le s.start m) _ (and_first (key_le s.start m) _ h) (min_in e s.end)
+over-held m e s h = and_both (key_le s.start m) _ (and_first (key_le s.start m) _ h) (min_second e s.end)
 
 -- the one key of a point is the key that was routed
 point-held : (k m e : List ℕ) (s : Extent) → key_le k m ≡ true → key_lt m e ≡ true → key_le e (after k) ≡ true → holds s.start s.end m ≡ true → holds_span s (record { start = k; end = after k }) ≡ true

@@ -9,8 +9,8 @@ use Rattle.ds_rule.specs.declared.answer.Outcome.{Outcome}
 use Rattle.ds_rule.specs.Asking.{Asking, asking}
 use Rattle.ds_rule.specs.Clauses.{Stands}
 use Rattle.ds_rule.specs.Law.{Did, IsGiven, IsReading, IsSingle}
-use Rattle.ds_rule.proofs.ReadLaw.{read_law}
-use Rattle.ds_rule.proofs.WholeLaw.{whole_law}
+use Rattle.ds_law.proofs.ReadLaw.{read_law}
+use Rattle.ds_law.proofs.WholeLaw.{whole_law}
 use Rattle.ds_send.specs.Batch.{is_built}
 use Rattle.ds_send.specs.Sent.{DidOnce, IsSendable, IsWholeSendable, Plain, PlainIf, is_whole}
 use Rattle.ds_send.proofs.WholeLegal.{sendable, whole-sendable}

@@ -11,6 +11,7 @@ use Rattle.ds_kind.specs.declared.batch.Batch.{Batch}
 use Rattle.ds_kind.specs.declared.illegal.Illegal.{Illegal}
 use Rattle.ds_kind.specs.declared.request.Request.{Request}
 use Rattle.ds_kind.specs.declared.request.Request.TheVariants.{Get, Scan, ReverseScan, Put, ConditionalPut, InitPut, Increment, Delete, DeleteRange, EndTxn, QueryIntent, ResolveIntent, ResolveIntentRange, AdminSplit, AdminTransferLease}
+use Rattle.ds_kind.proofs.RequestFacts.{proper_some}
 use Rattle.ds_legal.specs.Legal.{IsLegal}
 use Rattle.ds_cell.specs.Store.{Asker, Store}
 use Rattle.ds_rule.specs.declared.answer.Outcome.{Outcome}
@@ -21,15 +22,14 @@ use Rattle.ds_rule.specs.Law.{IsProperRead, IsReading, LeadsTo}
 use Rattle.ds_rule.specs.Pieces.{Each}
 use Rattle.ds_rule.specs.Plain.{counted_store}
 use Rattle.ds_rule.specs.StandsFor.{StandsFor}
-use Rattle.ds_rule.proofs.ReadLaw.{like-counted, stands-like}
-use Rattle.ds_send.proofs.AllSoFar.{proper-some}
+use Rattle.ds_law.proofs.ReadLaw.{like-counted, stands-like}
 use Rattle.ds_send.specs.Batch.{is_built, is_built_request, is_plain_read}
 use Rattle.ds_send.specs.Sent.{is_whole}
 
 -- the items of a batch pass what its requests pass
 
 both-read : (r : Request) → is_get_or_scan r ≡ true → has_proper_span r ≡ true → (pos : ℕ) (s : Seq) → IsProperRead (record { pos = pos; seq = s; request = r })
-both-read r read proper pos s = record { read = read; some = proper-some r proper }
+both-read r read proper pos s = record { read = read; some = proper_some r proper }
 
 pub reads-proper : (n last : ℕ) (rs : List Request) → list_all is_get_or_scan rs ≡ true → list_all has_proper_span rs ≡ true → Each IsProperRead (items_from n rs (numbers_from last rs))
 reads-proper n last [] read proper = tt

@@ -18,8 +18,8 @@ use Rattle.ds_rule.specs.Clauses.{Stands}
 use Rattle.ds_rule.specs.Gathered.{IsBody}
 use Rattle.ds_rule.specs.Journal.{Accepted}
 use Rattle.ds_rule.specs.Pieces.{IsOneOf}
-use Rattle.ds_rule.proofs.Gathering.{Front, front-none, front-more, front-done, join_with}
-use Rattle.ds_rule.proofs.Trips.{trip-none, trip-then, then-added}
+use Rattle.ds_law.proofs.Gathering.{Front, front-none, front-more, front-done, join_with}
+use Rattle.ds_law.proofs.Trips.{trip-none, trip-then, then-added}
 use Rattle.ds_send.specs.Bodies.{join_forward, rows_in, keys_in}
 use Rattle.ds_send.specs.Sent.{On, FailedAt, FailedOn, AnsweredBy, StoppedBy, Spent}
 use Rattle.ds_send.specs.declared.tries.Tries.{Tries}

@@ -1,48 +1,20 @@
 -- The least span that holds the spans of all requests.
-use Rattle.std.proofs.Common.{◌≡◌, ℕ, true, false, cond, List, [], ◌∷◌, refl}
+use Rattle.std.proofs.Common.{◌≡◌, ℕ, true, List, [], ◌∷◌, refl}
 use Rattle.std.specs.List.{list_all}
 use Rattle.ds_base.specs.Order.{Extent, key_lt, key_le, min_key, max_key}
 use Rattle.ds_base.proofs.KeyOrder.{key_le_lt-trans}
 use Rattle.ds_base.proofs.SmallFacts.{and_both, and_first, and_second}
-use Rattle.ds_base.proofs.OrderedFacts.{le_of_lt, le_of_not_lt, le_trans, lt_le_trans}
+use Rattle.ds_base.proofs.OrderedFacts.{le_trans, lt_le_trans}
+use Rattle.ds_base.proofs.KeyFacts.{min_first, min_second, max_first, max_second}
 use Rattle.ds_kind.specs.Request.{span_of}
 use Rattle.ds_kind.specs.declared.batch.Item.{Item}
 use Rattle.ds_kind.specs.WholeSpan.{whole_span, widened}
 use Rattle.ds_rule.specs.Path.{holds_span}
-use Rattle.ds_rule.proofs.Routes.{le_itself}
-
-min_low : (a b : List ℕ) → key_le (min_key a b) a ≡ true
-min_low a b =
-    elim (key_lt b a) as (λ t. key_lt b a ≡ t → key_le (cond t b a) a ≡ true) [
-      | true ↦ λ h. le_of_lt b a h
-      | false ↦ λ h. le_itself a
-    ] refl
-
-max_high : (a b : List ℕ) → key_le a (max_key a b) ≡ true
-max_high a b =
-    elim (key_lt a b) as (λ t. key_lt a b ≡ t → key_le a (cond t b a) ≡ true) [
-      | true ↦ λ h. le_of_lt a b h
-      | false ↦ λ h. le_itself a
-    ] refl
 
 pub wider-proper : (a b c d : List ℕ) → key_lt a b ≡ true → key_lt (min_key a c) (max_key b d) ≡ true
-wider-proper a b c d h = lt_le_trans (min_key a c) b (max_key b d) (key_le_lt-trans (min_key a c) a b (min_low a c) h) (max_high b d)
+wider-proper a b c d h = lt_le_trans (min_key a c) b (max_key b d) (key_le_lt-trans (min_key a c) a b (min_first a c) h) (max_first b d)
 
 -- what holds the least span holds each request's
-
-min_low_too : (a b : List ℕ) → key_le (min_key a b) b ≡ true
-min_low_too a b =
-    elim (key_lt b a) as (λ t. key_lt b a ≡ t → key_le (cond t b a) b ≡ true) [
-      | true ↦ λ h. le_itself b
-      | false ↦ λ h. le_of_not_lt b a h
-    ] refl
-
-max_high_too : (a b : List ℕ) → key_le b (max_key a b) ≡ true
-max_high_too a b =
-    elim (key_lt a b) as (λ t. key_lt a b ≡ t → key_le b (cond t b a) ≡ true) [
-      | true ↦ λ h. le_itself b
-      | false ↦ λ h. le_of_not_lt a b h
-    ] refl
 
 narrower : (d w s : Extent) → holds_span d w ≡ true → key_le w.start s.start ≡ true → key_le s.end w.end ≡ true → holds_span d s ≡ true
 narrower d w s h from to =
@@ -55,8 +27,8 @@ widened-held d s (i ∷ is) h =
     let t = span_of i.request in
     let wide : Extent = record { start = min_key s.start t.start; end = max_key s.end t.end } in
     let more = widened-held d wide is h in (
-      narrower d wide s more.0 (min_low s.start t.start) (max_high s.end t.end),
-      and_both (holds_span d t) _ (narrower d wide t more.0 (min_low_too s.start t.start) (max_high_too s.end t.end)) more.1,
+      narrower d wide s more.0 (min_first s.start t.start) (max_first s.end t.end),
+      and_both (holds_span d t) _ (narrower d wide t more.0 (min_second s.start t.start) (max_second s.end t.end)) more.1,
     )
 
 pub whole-held : (d : Extent) (items : List Item) → holds_span d (whole_span items) ≡ true → list_all (λ j. holds_span d (span_of j.request)) items ≡ true

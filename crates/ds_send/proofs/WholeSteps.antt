@@ -4,7 +4,6 @@ use Rattle.std.specs.List.{list_all}
 use Rattle.ds_base.specs.Order.{Extent}
 use Rattle.ds_base.specs.declared.value.Dir.TheVariants.{Forward}
 use Rattle.ds_base.proofs.SmallFacts.{and_first, and_second}
-use Rattle.ds_send.proofs.AllSoFar.{proper-some}
 use Rattle.ds_rule.proofs.Eachs.{each-append}
 use Rattle.ds_desc.specs.Contains.{contains}
 use Rattle.ds_desc.specs.declared.desc.Info.{Info}
@@ -12,13 +11,11 @@ use Rattle.ds_desc.specs.declared.meta.Looked.TheVariants as Looked
 use Rattle.ds_desc.specs.declared.refusal.Refusal.{Refusal}
 use Rattle.ds_kind.specs.Asks.{has_proper_span}
 use Rattle.ds_kind.specs.Parts.{requests_of}
-use Rattle.ds_kind.specs.Request.{cut_to, span_of}
+use Rattle.ds_kind.specs.Request.{span_of}
 use Rattle.ds_kind.specs.declared.batch.Item.{Item}
 use Rattle.ds_kind.specs.declared.batch.Piece.{Piece}
 use Rattle.ds_kind.specs.declared.reply.Failure.{Failure}
 use Rattle.ds_kind.specs.declared.reply.Reply.{Reply}
-use Rattle.ds_kind.specs.declared.request.Request.{Request}
-use Rattle.ds_kind.specs.declared.request.Request.TheVariants.{Get, Scan, ReverseScan, Put, ConditionalPut, InitPut, Increment, Delete, DeleteRange, EndTxn, QueryIntent, ResolveIntent, ResolveIntentRange, AdminSplit, AdminTransferLease}
 use Rattle.ds_rule.specs.declared.answer.Answer.{Answer}
 use Rattle.ds_rule.specs.declared.answer.Answer.TheVariants.{Done, Failed, Refused, Lost}
 use Rattle.ds_rule.specs.declared.event.Event.{Event}
@@ -26,36 +23,20 @@ use Rattle.ds_rule.specs.declared.journal.JournalStep.{JournalStep}
 use Rattle.ds_rule.specs.declared.journal.JournalStep.TheVariants.{Look, Send}
 use Rattle.ds_rule.specs.Asking.{Asking}
 use Rattle.ds_kind.specs.WholeSpan.{whole_span}
+use Rattle.ds_kind.proofs.RequestFacts.{cut_whole, proper_some}
 use Rattle.ds_rule.specs.Cause.{Trip, IsWholeOf, IsIdle}
 use Rattle.ds_rule.specs.Clauses.{Stands, Steps, and_step}
 use Rattle.ds_rule.specs.Journal.{Happening, Moved, Did, Accepted, accepted_by}
 use Rattle.ds_rule.specs.Path.{GoesTo, IsRouted, IsStepOf, holds_span}
 use Rattle.ds_rule.specs.Pieces.{Each, IsOneOf, IsCut, PieceOf}
 use Rattle.ds_rule.proofs.Routes.{le_itself}
-use Rattle.ds_rule.proofs.Trips.{trip-none, trip-step, trip-then, step-added, then-added, none-added}
+use Rattle.ds_law.proofs.Trips.{trip-none, trip-step, trip-then, step-added, then-added, none-added}
 use Rattle.ds_send.specs.Sent.{IsWholeSendable, IsTold, InVain, ServedOnce, FailedOnce, WideOnce, LostOnce}
 use Rattle.ds_send.proofs.Cuts.{goes-forward}
 use Rattle.ds_send.proofs.Going.{IsSent, before_send, sent-trip, trip-added}
 use Rattle.ds_send.proofs.WholeSpan.{whole-held}
 
 -- the whole batch is a piece of itself
-
-cut-whole : (r : Request) → r ≡ cut_to (span_of r).start (span_of r).end r
-cut-whole (Get a) = refl
-cut-whole (Scan a) = refl
-cut-whole (ReverseScan a) = refl
-cut-whole (Put a) = refl
-cut-whole (ConditionalPut a) = refl
-cut-whole (InitPut a) = refl
-cut-whole (Increment a) = refl
-cut-whole (Delete a) = refl
-cut-whole (DeleteRange a) = refl
-cut-whole (EndTxn a) = refl
-cut-whole (QueryIntent a) = refl
-cut-whole (ResolveIntent a) = refl
-cut-whole (ResolveIntentRange a) = refl
-cut-whole (AdminSplit a) = refl
-cut-whole (AdminTransferLease a) = refl
 
 each-cut : (whole items : List Item) → ((i : Item) → IsOneOf i items → IsOneOf i whole) → list_all has_proper_span (requests_of items) ≡ true → Each (IsCut whole) items
 each-cut whole [] there h = tt
@@ -65,8 +46,8 @@ each-cut whole (i ∷ is) there h = (
     there = there i (inl refl);
     position = refl;
     number = refl;
-    request = cut-whole i.request;
-    some = proper-some i.request (and_first (has_proper_span i.request) _ h);
+    request = sym (cut_whole i.request);
+    some = proper_some i.request (and_first (has_proper_span i.request) _ h);
     from = le_itself (span_of i.request).start;
     to = le_itself (span_of i.request).end;
   },

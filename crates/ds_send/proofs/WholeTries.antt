@@ -13,7 +13,7 @@ use Rattle.ds_rule.specs.Cause.{LastFails, IsHeldBack, IsWholeOf, IsIdle, WholeC
 use Rattle.ds_rule.specs.Clauses.{Stands}
 use Rattle.ds_rule.specs.Journal.{Happening, Did}
 use Rattle.ds_rule.specs.Pieces.{Each}
-use Rattle.ds_rule.proofs.Trips.{trip-then, then-added}
+use Rattle.ds_law.proofs.Trips.{trip-then, then-added}
 use Rattle.ds_send.specs.declared.tries.Tries.{Tries}
 use Rattle.ds_send.specs.Sent.{AmbiguousBy, IsTold, ToldButLast, DidOnce, InVain, ServedOnce, FailedOnce, WideOnce, LostOnce, Trying, Spent, any_risky, outcome_of}
 use Rattle.ds_send.proofs.WholeSteps.{none-tried, vain-then, vain-added, then-each, after-all}

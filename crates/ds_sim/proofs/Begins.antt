@@ -12,7 +12,7 @@ use Rattle.std.proofs.lemmas.List.{drop_more, length-drop, reverse-append}
 use Rattle.ds_base.proofs.KeyOrder.{key_le-not_lt}
 use Rattle.ds_base.proofs.SmallFacts.{and_first, and_second, not_greater}
 use Rattle.ds_base.proofs.OrderedFacts.{le_of_not_lt, not_lt_of_le, not_le_of_lt}
-use Rattle.ds_rule.proofs.Standing.{least}
+use Rattle.ds_rule.proofs.Routes.{least}
 use Rattle.ds_desc.specs.Contains.{contains, lies_ahead, first_contains}
 use Rattle.ds_rule.specs.declared.cluster.ClusterRange.{ClusterRange}
 use Rattle.ds_rule.specs.World.{Range, start_of, end_of, Tiles, in_order, from_first}

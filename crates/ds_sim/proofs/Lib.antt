@@ -1,6 +1,7 @@
 pub mod Alike
 pub mod Begins
 pub mod Closing
+pub mod DeliverAt
 pub mod Delivering
 pub mod Examples
 pub mod Places

@@ -7,6 +7,8 @@
 #[cfg(test)]
 mod base_tests;
 #[cfg(test)]
+mod cell_tests;
+#[cfg(test)]
 mod io_tests;
 #[cfg(test)]
 mod kind_tests;

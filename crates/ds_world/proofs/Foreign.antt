@@ -14,7 +14,7 @@ use Rattle.ds_rule.specs.Shifts.{foreign_at}
 use Rattle.ds_rule.specs.Steady.{has_lease, ids_differ}
 use Rattle.ds_rule.specs.World.{World, Range, contents, start_of, end_of, Tiles, holds_key, replaced}
 use Rattle.ds_rule.proofs.Puts.{contents-put}
-use Rattle.ds_rule.proofs.Routes.{le_itself}
+use Rattle.ds_rule.proofs.Routes.{le_itself, least}
 use Rattle.ds_rule.proofs.Tiling.{tiles-put}
 use Rattle.ds_world.proofs.Stretches.{infos}
 
@@ -50,10 +50,6 @@ foreign-keeps k v w h = record {
 
 -- ---- what it leaves in all ranges
 
-least : (k : List ℕ) → key_le [] k ≡ true
-least [] = refl
-least (n ∷ ns) = refl
-
 pub foreign-contents : (k : List ℕ) (v : Version) (w : World) → Keeps w → key_lt k bound ≡ true → contents (foreign_at k v w).ranges ≡ put_cell k (after_foreign v) (contents w.ranges)
 foreign-contents k v w h low = contents-put k (after_foreign v) [] w.ranges h.tiled (least k) low
 
@@ -61,7 +57,7 @@ and_false : (t : Bool) → (t && false) ≡ false
 and_false true = refl
 and_false false = refl
 
-ends-low : (s : List ℕ) (rs : List Range) → Tiles s rs → key_le s bound ≡ true
+pub ends-low : (s : List ℕ) (rs : List Range) → Tiles s rs → key_le s bound ≡ true
 ends-low s [] t = subst (λ z. key_le s z ≡ true) t (le_itself s)
 ends-low s (r ∷ rs) t = le_trans s (end_of r) bound (le_of_lt s (end_of r) t.0.some) (ends-low (end_of r) rs t.1)
 

@@ -14,7 +14,7 @@ use Rattle.ds_cell.specs.Seen.{last_of}
 use Rattle.ds_rule.specs.Keeping.{IsNewest}
 use Rattle.ds_rule.specs.Pieces.{Each}
 use Rattle.ds_rule.specs.World.{Range, start_of, end_of, Fits, Tiles, holds_key}
-use Rattle.ds_rule.proofs.Recorded.{last-cases}
+use Rattle.ds_rule.proofs.Lasts.{last-cases}
 use Rattle.ds_rule.proofs.Routes.{le_itself}
 
 and_false : (t : Bool) → (t && false) ≡ false
@@ -33,7 +33,7 @@ all-more : (g : ℕ) (xs : List RangeDesc) (e : RangeDesc) → AllNewer g xs →
 all-more g [] e all h = (h, tt)
 all-more g (x ∷ xs) e all h = (all.0, all-more g xs e all.1 h)
 
-all-last : (g : ℕ) (xs : List RangeDesc) (d : RangeDesc) → AllNewer g xs → last_of xs ≡ Some d → g < d.generation
+pub all-last : (g : ℕ) (xs : List RangeDesc) (d : RangeDesc) → AllNewer g xs → last_of xs ≡ Some d → g < d.generation
 all-last g [] d all h = cc
 all-last g (x ∷ xs) d all h = elim (last-cases x xs d h) [
   | inl one ↦ subst (λ z. g < z.generation) one.1 all.0

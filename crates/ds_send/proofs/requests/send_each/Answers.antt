@@ -1,9 +1,10 @@
 use Rattle.std.proofs.Common.{◌≡◌, ◌<◌, ◌+◌, ◌++◌, ◌∷◌, true, sym, [], subst, rules, length, get_or, take, None}
 use Rattle.ds_kind.specs.Request.{span_of}
+use Rattle.ds_kind.proofs.RequestFacts.{proper_some}
 use Rattle.ds_rule.specs.Law.{Did}
 use Rattle.ds_rule.specs.Pieces.{IsOneOf}
 use Rattle.ds_send.specs.Sent.{AnsweredBy}
-use Rattle.ds_send.proofs.AllSoFar.{AllSoFar, all-start, all-next, all-stopped, all-failed, one-of-get, proper-one, proper-some}
+use Rattle.ds_send.proofs.AllSoFar.{AllSoFar, all-start, all-next, all-stopped, all-failed, one-of-get, proper-one}
 use Rattle.ds_send.proofs.requests.send_each.Goals as goal
 
 pub requests-init : goal.requests-init
@@ -32,7 +33,7 @@ all_pieces-requires-clause-some g c =
     let low : c.requests.item-index < length c.args.asked.now.items = subst (λ ys. c.requests.item-index < length ys) items c.requests-test.true in
     let is : c.item-item.result ≡ get_or c.args.asked.now.items c.requests.item-index c.item-item.result = subst (λ ys. c.item-item.result ≡ get_or ys c.requests.item-index c.item-item.result) items c.item-item.is in
     let one : IsOneOf c.item-item.result c.args.asked.now.items = subst (λ z. IsOneOf z c.args.asked.now.items) (sym is) (one-of-get c.args.asked.now.items c.requests.item-index c.item-item.result low) in
-    rw (c.in_ok-start.ensures, c.in_ok-end.ensures) (proper-some c.item-item.result.request (proper-one c.item-item.result c.args.asked.now.items one c.requires.proper))
+    rw (c.in_ok-start.ensures, c.in_ok-end.ensures) (proper_some c.item-item.result.request (proper-one c.item-item.result c.args.asked.now.items one c.requires.proper))
 
 pub returns-in-Failed : goal.returns-in-Failed
 returns-in-Failed g c =

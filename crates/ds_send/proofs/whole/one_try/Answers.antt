@@ -28,48 +28,32 @@ returns-then-not-holds g c =
 
 pub returns-in-Done : goal.returns-in-Done
 returns-in-Done g c =
-    let q = c.args.asked.now in
-    let a = g.W.Wire.state c.args.wire.now in
-    let b = g.W.Wire.state c.route.new.wire in
-    let d = g.W.Wire.state c.send.new.self in
     let i = c.in-Some.info in
     let look = rw c.in-Some.is at c.in_ok-info.ensures.step in
-    let holds = holds-whole i.desc.span c.args.span.now (whole_span q.items) c.holds.result true c.requires.whole c.holds.ensures c.if-not-holds.false in
-    served-once q a b d i.lease.node c.in_ok-piece.piece c.in-Done.replies
-    (goes q a b d c.span.inside.start i look.0 c.in_ok-piece.piece c.in_ok-replies.field-0 (Done c.in-Done.replies) c.requires.sendable holds look.1 c.in_ok-piece.ensures c.in_ok-replies.ensures c.in-Done.is)
+    let holds = holds-whole i.desc.span c.args.span.now (whole_span c.args.asked.now.items) c.holds.result true c.requires.whole c.holds.ensures c.if-not-holds.false in
+    served-once c.args.asked.now _ _ _ i.lease.node c.in_ok-piece.piece c.in-Done.replies
+    (goes c.args.asked.now _ _ _ c.span.inside.start i look.0 c.in_ok-piece.piece c.in_ok-replies.field-0 (Done c.in-Done.replies) c.requires.sendable holds look.1 c.in_ok-piece.ensures c.in_ok-replies.ensures c.in-Done.is)
 
 pub returns-in-Failed : goal.returns-in-Failed
 returns-in-Failed g c =
-    let q = c.args.asked.now in
-    let a = g.W.Wire.state c.args.wire.now in
-    let b = g.W.Wire.state c.route.new.wire in
-    let d = g.W.Wire.state c.send.new.self in
     let i = c.in-Some.info in
     let look = rw c.in-Some.is at c.in_ok-info.ensures.step in
-    let holds = holds-whole i.desc.span c.args.span.now (whole_span q.items) c.holds.result true c.requires.whole c.holds.ensures c.if-not-holds.false in
-    failed-once q a b d i.lease.node c.in_ok-piece.piece c.in-Failed.failure
-    (goes q a b d c.span.inside.start i look.0 c.in_ok-piece.piece c.in_ok-replies.field-0 (Failed c.in-Failed.failure) c.requires.sendable holds look.1 c.in_ok-piece.ensures c.in_ok-replies.ensures c.in-Failed.is)
+    let holds = holds-whole i.desc.span c.args.span.now (whole_span c.args.asked.now.items) c.holds.result true c.requires.whole c.holds.ensures c.if-not-holds.false in
+    failed-once c.args.asked.now _ _ _ i.lease.node c.in_ok-piece.piece c.in-Failed.failure
+    (goes c.args.asked.now _ _ _ c.span.inside.start i look.0 c.in_ok-piece.piece c.in_ok-replies.field-0 (Failed c.in-Failed.failure) c.requires.sendable holds look.1 c.in_ok-piece.ensures c.in_ok-replies.ensures c.in-Failed.is)
 
 pub returns-in-Refused : goal.returns-in-Refused
 returns-in-Refused g c =
-    let q = c.args.asked.now in
-    let a = g.W.Wire.state c.args.wire.now in
-    let b = g.W.Wire.state c.route.new.wire in
-    let d = g.W.Wire.state c.send.new.self in
     let i = c.in-Some.info in
     let look = rw c.in-Some.is at c.in_ok-info.ensures.step in
-    let holds = holds-whole i.desc.span c.args.span.now (whole_span q.items) c.holds.result true c.requires.whole c.holds.ensures c.if-not-holds.false in
-    refused-once q a b d i.lease.node c.in_ok-piece.piece c.in-Refused.field-0
-    (goes q a b d c.span.inside.start i look.0 c.in_ok-piece.piece c.in_ok-replies.field-0 (Refused c.in-Refused.field-0) c.requires.sendable holds look.1 c.in_ok-piece.ensures c.in_ok-replies.ensures c.in-Refused.is)
+    let holds = holds-whole i.desc.span c.args.span.now (whole_span c.args.asked.now.items) c.holds.result true c.requires.whole c.holds.ensures c.if-not-holds.false in
+    refused-once c.args.asked.now _ _ _ i.lease.node c.in_ok-piece.piece c.in-Refused.field-0
+    (goes c.args.asked.now _ _ _ c.span.inside.start i look.0 c.in_ok-piece.piece c.in_ok-replies.field-0 (Refused c.in-Refused.field-0) c.requires.sendable holds look.1 c.in_ok-piece.ensures c.in_ok-replies.ensures c.in-Refused.is)
 
 pub returns : goal.returns
 returns g c =
-    let q = c.args.asked.now in
-    let a = g.W.Wire.state c.args.wire.now in
-    let b = g.W.Wire.state c.route.new.wire in
-    let d = g.W.Wire.state c.send.new.self in
     let i = c.in-Some.info in
     let look = rw c.in-Some.is at c.in_ok-info.ensures.step in
-    let holds = holds-whole i.desc.span c.args.span.now (whole_span q.items) c.holds.result true c.requires.whole c.holds.ensures c.if-not-holds.false in
-    lost-once q a b d i.lease.node c.in_ok-piece.piece
-    (goes q a b d c.span.inside.start i look.0 c.in_ok-piece.piece c.in_ok-replies.field-0 Lost c.requires.sendable holds look.1 c.in_ok-piece.ensures c.in_ok-replies.ensures c.in-Lost.is)
+    let holds = holds-whole i.desc.span c.args.span.now (whole_span c.args.asked.now.items) c.holds.result true c.requires.whole c.holds.ensures c.if-not-holds.false in
+    lost-once c.args.asked.now _ _ _ i.lease.node c.in_ok-piece.piece
+    (goes c.args.asked.now _ _ _ c.span.inside.start i look.0 c.in_ok-piece.piece c.in_ok-replies.field-0 Lost c.requires.sendable holds look.1 c.in_ok-piece.ensures c.in_ok-replies.ensures c.in-Lost.is)

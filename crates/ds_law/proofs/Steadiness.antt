@@ -1,0 +1,280 @@
+-- A world stays steady at each line that is built, and in it no routed piece is refused.
+use Rattle.std.proofs.Common.{◌≡◌, ℕ, ◌+◌, ◌<◌, ◌⊎◌, Bool, true, false, not, cond, ◌&&◌, ◌||◌, ◌==◌, List, [], ◌∷◌, ◌++◌, map, take, reverse, Option, Some, None, inl, inr, refl, sym, ap, ◌∙◌, subst, eq-eqb, ne_eqb, arith}
+use Rattle.std.specs.List.{find, list_any, list_all}
+use Rattle.std.proofs.lemmas.Grind.{reverse_onto}
+use Rattle.ds_base.specs.declared.value.Dir.{Dir}
+use Rattle.ds_base.specs.declared.value.Dir.TheVariants.{Forward, Reverse}
+use Rattle.ds_base.specs.declared.value.Stamp.{Stamp}
+use Rattle.ds_base.specs.declared.value.Value.{Value}
+use Rattle.ds_base.proofs.SmallFacts.{and_first, and_second}
+use Rattle.ds_desc.specs.Contains.{contains}
+use Rattle.ds_desc.specs.declared.desc.Info.{Info}
+use Rattle.ds_desc.specs.declared.meta.Looked.TheVariants as Looked
+use Rattle.ds_desc.specs.declared.refusal.Refusal.{Refusal}
+use Rattle.ds_desc.specs.declared.refusal.Refusal.TheVariants.{NotFound, NotLease, Mismatch}
+use Rattle.ds_kind.specs.declared.batch.Piece.{Piece}
+use Rattle.ds_kind.specs.declared.reply.Failure.{Failure}
+use Rattle.ds_cell.specs.Ask.{Cells}
+use Rattle.ds_cell.specs.Store.{Asker}
+use Rattle.ds_rule.specs.declared.answer.Answer.TheVariants.{Done, Failed, Refused, Lost}
+use Rattle.ds_rule.specs.declared.cluster.ClusterRange.{ClusterRange}
+use Rattle.ds_rule.specs.declared.event.Event.TheVariants.{Write}
+use Rattle.ds_rule.specs.declared.journal.JournalStep.TheVariants.{Look, Send}
+use Rattle.ds_rule.specs.declared.record.TxnRecord.{TxnRecord}
+use Rattle.ds_rule.specs.Asking.{Made, Gives, Fails}
+use Rattle.ds_rule.specs.Begin.{ranges_of, first_world, is_leased}
+use Rattle.ds_rule.specs.Cause.{UsedUp, refused_in, lost_in}
+use Rattle.ds_rule.specs.Close.{closed, settle_by, settle_range, with_begin}
+use Rattle.ds_rule.specs.Deliver.{Stop, Turned, answer_at, answer_made, deliver_answer, deliver_answer_to, deliver_world, deliver_world_to, ends, holds_item, mismatch_rows, served, stops, world_at, world_made}
+use Rattle.ds_rule.specs.Journal.{Happening, Moved, Did, Runs}
+use Rattle.ds_rule.specs.Law.{IsQuiet}
+use Rattle.ds_rule.specs.Moves.{moved}
+use Rattle.ds_rule.specs.Path.{AreRouted, GoesTo, IsRouted, route_by}
+use Rattle.ds_rule.specs.Pieces.{Each, IsOneOf}
+use Rattle.ds_rule.specs.Steady.{Steady, has_lease, ids_differ, infos_in}
+use Rattle.ds_rule.specs.World.{World, Range, from_first, in_order, look_rows, look_world, rows_at, without_first, has_id, holds_key, replaced}
+use Rattle.ds_law.proofs.Failing.{status_of}
+
+-- at first
+
+other-id : (id n : ℕ) (rs : List ClusterRange) → id < n → list_any (λ j. j.desc.id == id) (map (λ r. r.info) (ranges_of n rs)) ≡ false
+other-id id n [] low = refl
+other-id id n (r ∷ rs) low =
+    ap (λ t. t || list_any (λ j. j.desc.id == id) (map (λ r. r.info) (ranges_of (n + 1) rs))) (ne_eqb n id (λ e. omega (arith, e, low)))
+    ∙ other-id id (n + 1) rs (omega (arith, low))
+
+first-ids : (id : ℕ) (rs : List ClusterRange) → ids_differ (map (λ r. r.info) (ranges_of id rs)) ≡ true
+first-ids id [] = refl
+first-ids id (r ∷ rs) = ap (λ t. not t && ids_differ (map (λ r. r.info) (ranges_of (id + 1) rs))) (other-id id (id + 1) rs (omega arith)) ∙ first-ids (id + 1) rs
+
+first-leases : (id : ℕ) (rs : List ClusterRange) → list_all is_leased rs ≡ true → list_all has_lease (map (λ r. r.info) (ranges_of id rs)) ≡ true
+first-leases id [] h = refl
+first-leases id (r ∷ rs) h =
+    ap (λ t. t && list_all has_lease (map (λ r. r.info) (ranges_of (id + 1) rs))) (and_first (is_leased r) _ h) ∙ first-leases (id + 1) rs (and_second (is_leased r) _ h)
+
+pub first-steady : (rs : List ClusterRange) → list_all is_leased rs ≡ true → Steady (first_world rs)
+first-steady rs h = record { current = refl; ids = first-ids 1 rs; leases = first-leases 1 rs h }
+
+-- and afterwards, as long as the ranges stay as they are
+
+pub still-steady : (w v : World) → infos_in v ≡ infos_in w → v.armed ≡ [] → Steady w → Steady v
+still-steady w v infos armed s = record {
+  current = armed;
+  ids = ap ids_differ infos ∙ s.ids;
+  leases = ap (list_all has_lease) infos ∙ s.leases;
+}
+
+same-infos : (p : Range → Bool) (cells : Range → Cells) (rs : List Range) → map (λ r. r.info) (replaced p (λ r. record r { cells = cells r }) rs) ≡ map (λ r. r.info) rs
+same-infos p cells [] = refl
+same-infos p cells (r ∷ rs) =
+    elim (p r) as (λ b. map (λ r. r.info) (cond b (record r { cells = cells r } ∷ rs) (r ∷ replaced p (λ r. record r { cells = cells r }) rs)) ≡ r.info ∷ map (λ r. r.info) rs) [
+      | true ↦ refl
+      | false ↦ ap (λ is. r.info ∷ is) (same-infos p cells rs)
+    ]
+
+pub write-steady : (w : World) (k : List ℕ) (s : Stamp) (v : Option Value) → Steady w → Steady (moved w (Write k s v))
+write-steady w k s v st = still-steady w (moved w (Write k s v)) (same-infos (holds_key k) _ w.ranges) st.current st
+
+pub begin-steady : (w : World) (t : Asker) → Steady w → Steady (with_begin t w)
+begin-steady w t st = record { current = st.current; ids = st.ids; leases = st.leases }
+
+settled-infos : (txn : ℕ) (commit : Option Stamp) (rs : List Range) → map (λ r. r.info) (map (settle_range txn commit) rs) ≡ map (λ r. r.info) rs
+settled-infos txn commit [] = refl
+settled-infos txn commit (r ∷ rs) = ap (λ is. r.info ∷ is) (settled-infos txn commit rs)
+
+closed-infos : (o : Option TxnRecord) (rs : List Range) → map (λ r. r.info) (settle_by o rs) ≡ map (λ r. r.info) rs
+closed-infos None rs = refl
+closed-infos (Some t) rs = settled-infos t.txn.0 _ rs
+
+pub close-steady : (w : World) → Steady w → Steady (closed w)
+close-steady w st = still-steady w (closed w) (closed-infos _ w.ranges) st.current st
+
+-- a step of a sender
+
+look-steady : (w : World) (k : List ℕ) (d : Dir) → Steady w → Steady (look_world w k d)
+look-steady w k d st = still-steady w (look_world w k d) refl (ap (without_first _) st.current) st
+
+made-steady : (w : World) (p : Piece) (m : Made) → Steady w → Steady (world_made w p m)
+made-steady w p (Fails f) st = st
+made-steady w p (Gives cells ws rs) st = still-steady w (world_made w p (Gives cells ws rs)) (same-infos (has_id p.range) _ w.ranges) st.current st
+
+at-steady : (w : World) (p : Piece) (r : Range) (o : Option Stop) → Steady w → Steady (world_at w p r o)
+at-steady w p r (Some s) st = st
+at-steady w p r None st = made-steady w p (served p r) st
+
+to-steady : (w : World) (n : ℕ) (p : Piece) (o : Option Range) → Steady w → Steady (deliver_world_to w n p o)
+to-steady w n p None st = st
+to-steady w n p (Some r) st = at-steady w p r (stops w n p r) st
+
+deliver-steady : (w : World) (n : ℕ) (p : Piece) → Steady w → Steady (deliver_world w n p)
+deliver-steady w n p st = to-steady w n p (find (has_id p.range) w.ranges) st
+
+-- and so a call that meets nothing but its own steps
+pub quiet-steady : (hs : List Happening) (w v : World) → Each IsQuiet hs → Runs w hs v → Steady w → Steady v
+quiet-steady [] w v quiet r st = subst Steady (sym r) st
+quiet-steady (Moved e ∷ hs) w v quiet r st = absurd quiet.0
+quiet-steady (Did (Look k d (Looked.Rows infos)) ∷ hs) w v quiet r st = quiet-steady hs r.0 v quiet.1 r.2 (subst Steady (sym r.1.1) (look-steady w k d st))
+quiet-steady (Did (Look k d Looked.Lost) ∷ hs) w v quiet r st = absurd (quiet.0 tt)
+quiet-steady (Did (Send n p (Done rs)) ∷ hs) w v quiet r st = quiet-steady hs r.0 v quiet.1 r.2 (subst Steady (sym r.1.1) (deliver-steady w n p st))
+quiet-steady (Did (Send n p (Failed f)) ∷ hs) w v quiet r st = quiet-steady hs r.0 v quiet.1 r.2 (subst Steady (sym r.1.1) (deliver-steady w n p st))
+quiet-steady (Did (Send n p (Refused f)) ∷ hs) w v quiet r st = quiet-steady hs r.0 v quiet.1 r.2 (subst Steady (sym r.1.1) (deliver-steady w n p st))
+quiet-steady (Did (Send n p Lost) ∷ hs) w v quiet r st = absurd (quiet.0 tt)
+
+-- a lookup's first row is of a range
+
+of-append : {X : Type 0} (x : X) (xs ys : List X) → IsOneOf x (xs ++ ys) → IsOneOf x xs ⊎ IsOneOf x ys
+of-append x [] ys h = inr h
+of-append x (y ∷ xs) ys (inl same) = inl (inl same)
+of-append x (y ∷ xs) ys (inr more) = elim (of-append x xs ys more) [ inl l ↦ inl (inr l) | inr r ↦ inr r ]
+
+of-reverse : {X : Type 0} (x : X) (xs : List X) → IsOneOf x (reverse xs) → IsOneOf x xs
+of-reverse x [] h = h
+of-reverse x (y ∷ ys) h = elim (of-append x (reverse ys) (y ∷ []) (subst (IsOneOf x) (reverse_onto ys y []) h)) [
+  | inl l ↦ inr (of-reverse x ys l)
+  | inr r ↦ elim r [ inl same ↦ inl same | inr none ↦ absurd none ]
+]
+
+of-order : (d : Dir) (r : Range) (rs : List Range) → IsOneOf r (in_order d rs) → IsOneOf r rs
+of-order Forward r rs h = h
+of-order Reverse r rs h = of-reverse r rs h
+
+of-first : {X : Type 0} (p : X → Bool) (x : X) (xs : List X) → IsOneOf x (from_first p xs) → IsOneOf x xs
+of-first p x [] h = h
+of-first p x (y ∷ ys) h =
+    elim (p y) as (λ b. IsOneOf x (cond b (y ∷ ys) (from_first p ys)) → IsOneOf x (y ∷ ys)) [
+      | true ↦ λ g. g
+      | false ↦ λ g. inr (of-first p x ys g)
+    ] h
+
+of-infos : (r : Range) (rs : List Range) → IsOneOf r rs → IsOneOf r.info (map (λ r. r.info) rs)
+of-infos r [] h = h
+of-infos r (q ∷ qs) (inl same) = inl (ap (λ z. z.info) same)
+of-infos r (q ∷ qs) (inr more) = inr (of-infos r qs more)
+
+-- where rows are of ranges, the first one is
+first-row : (i : Info) (rest : List Info) (rs : List Range) → i ∷ rest ≡ map (λ r. r.info) (take 9 rs) → (r : Range) × (i ≡ r.info) × IsOneOf r rs
+first-row i rest [] h = cc
+first-row i rest (r ∷ rs) h = (r, cc, inl refl)
+
+pub found-row : (w : World) (k : List ℕ) (d : Dir) (i : Info) (rest : List Info) → Steady w → i ∷ rest ≡ look_rows w k d → IsOneOf i (infos_in w)
+found-row w k d i rest st h =
+    let f = first-row i rest (from_first (λ r. contains d k r.info.desc.span) (in_order d w.ranges)) (h ∙ ap (λ descs. rows_at d k w (find (λ a. contains d k a.span) descs)) st.current) in
+    subst (λ z. IsOneOf z (infos_in w)) (sym f.1) (of-infos f.0 w.ranges (of-order d f.0 w.ranges (of-first (λ r. contains d k r.info.desc.span) f.0 (in_order d w.ranges) f.2)))
+
+-- the range of a row is the one with its id
+
+other-row : (i : Info) (n : ℕ) (is : List Info) → IsOneOf i is → list_any (λ j. j.desc.id == n) is ≡ false → n ≡ i.desc.id → ⊥
+other-row i n [] one h e = one
+other-row i n (j ∷ js) (inl same) h e =
+    let hit : (j.desc.id == n) ≡ true = eq-eqb j.desc.id n (ap (λ z. z.desc.id) (sym same) ∙ sym e) in
+    never (sym (ap (λ t. t || list_any (λ j. j.desc.id == n) js) hit) ∙ h)
+  where
+    never : true ≡ false → ⊥
+    never h = cc
+other-row i n (j ∷ js) (inr more) h e = other-row i n js more (or_right (j.desc.id == n) _ h) e
+  where
+    or_right : (a b : Bool) → (a || b) ≡ false → b ≡ false
+    or_right true b h = cc
+    or_right false b h = h
+
+-- the range that a row is of
+record Of (i : Info) (rs : List Range) : Type 0 where
+  range : Range
+  found : find (has_id i.desc.id) rs ≡ Some range
+  is : range.info ≡ i
+
+of-row : (i : Info) (rs : List Range) → ids_differ (map (λ r. r.info) rs) ≡ true → IsOneOf i (map (λ r. r.info) rs) → Of i rs
+of-row i [] differ one = absurd one
+of-row i (r ∷ rs) differ (inl same) = record {
+  range = r;
+  found = ap (λ t. cond t (Some r) (find (has_id i.desc.id) rs)) (eq-eqb r.info.desc.id i.desc.id (ap (λ z. z.desc.id) (sym same)));
+  is = sym same;
+}
+of-row i (r ∷ rs) differ (inr more) =
+    let none = first_not (list_any (λ j. j.desc.id == r.info.desc.id) (map (λ r. r.info) rs)) _ differ in
+    let o = of-row i rs (and_second (not (list_any (λ j. j.desc.id == r.info.desc.id) (map (λ r. r.info) rs))) _ differ) more in
+    record {
+      range = o.range;
+      found = ap (λ t. cond t (Some r) (find (has_id i.desc.id) rs)) (ne_eqb r.info.desc.id i.desc.id (other-row i r.info.desc.id (map (λ r. r.info) rs) more none)) ∙ o.found;
+      is = o.is;
+    }
+  where
+    first_not : (a b : Bool) → (not a && b) ≡ true → a ≡ false
+    first_not true b h = sym h
+    first_not false b h = refl
+
+leased : (i : Info) (is : List Info) → IsOneOf i is → list_all has_lease is ≡ true → has_lease i ≡ true
+leased i [] one h = absurd one
+leased i (j ∷ js) (inl same) h = ap has_lease same ∙ and_first (has_lease j) _ h
+leased i (j ∷ js) (inr more) h = leased i js more (and_second (has_lease j) _ h)
+
+-- so a piece that goes where a row says is turned away by nobody
+
+goes-on : (w : World) (n : ℕ) (p : Piece) (r : Range) → has_lease r.info ≡ true → GoesTo r.info n p → stops w n p r ≡ ends (status_of w p)
+goes-on w n p r lease goes =
+    let third = cond (not (list_all (holds_item r) p.items)) (Some (Turned (Mismatch (mismatch_rows w p)))) (ends (status_of w p)) in
+    let second = cond (not (r.info.lease.node == n)) (Some (Turned (NotLease r.info.lease))) third in
+    ap (λ t. cond (not t) (Some (Turned NotFound)) second) (ap (λ m. list_any (λ n. n == m) r.info.desc.nodes) goes.lease ∙ lease)
+    ∙ ap (λ t. cond (not t) (Some (Turned (NotLease r.info.lease))) third) (eq-eqb r.info.lease.node n (sym goes.lease))
+    ∙ ap (λ t. cond (not t) (Some (Turned (Mismatch (mismatch_rows w p)))) (ends (status_of w p))) goes.held
+
+made-answers : (m : Made) (f : Refusal) → Refused f ≡ answer_made m → ⊥
+made-answers (Gives cells ws rs) f h = cc
+made-answers (Fails g) f h = cc
+
+ends-answers : (w : World) (p : Piece) (r : Range) (o : Option Failure) (f : Refusal) → Refused f ≡ answer_at w p r (ends o) → ⊥
+ends-answers w p r None f h = made-answers (served p r) f h
+ends-answers w p r (Some g) f h = cc
+
+pub not-refused : (w : World) (i : Info) (n : ℕ) (p : Piece) (f : Refusal) → Steady w → IsOneOf i (infos_in w) → GoesTo i n p → Refused f ≡ deliver_answer w n p → ⊥
+not-refused w i n p f st one goes h =
+    let o = of-row i w.ranges st.ids one in
+    let found : find (has_id p.range) w.ranges ≡ Some o.range = ap (λ id. find (has_id id) w.ranges) goes.range ∙ o.found in
+    let on = goes-on w n p o.range (ap has_lease o.is ∙ leased i (infos_in w) one st.leases) (subst (λ z. GoesTo z n p) (sym o.is) goes) in
+    ends-answers w p o.range (status_of w p) f (h ∙ ap (deliver_answer_to w n p) found ∙ ap (answer_at w p o.range) on)
+
+-- and nothing is refused or lost on a way that meets nothing but its own steps
+
+-- the route was found in this world
+abbrev pub IsFound : Option Info → World → Type 0
+IsFound None w = Unit {0}
+IsFound (Some i) w = IsOneOf i (infos_in w)
+
+pub record AllTaken (hs : List Happening) : Type 0 where
+  pub refusals : refused_in hs ≡ 0
+  pub losses : lost_in hs ≡ 0
+
+one-taken : (hs : List Happening) (r l : ℕ) → AllTaken hs → r ≡ 0 + refused_in hs → l ≡ 0 + lost_in hs → (r ≡ 0) × (l ≡ 0)
+one-taken hs r l all e f = (let x = all.refusals in omega (arith, x, e), let y = all.losses in omega (arith, y, f))
+
+found-by : (w : World) (k : List ℕ) (d : Dir) (infos : List Info) → Steady w → infos ≡ look_rows w k d → IsFound (route_by (Look k d (Looked.Rows infos))) (look_world w k d)
+found-by w k d [] st h = tt
+found-by w k d (i ∷ is) st h = found-row w k d i is st h
+
+refused-never : (w : World) (route : Option Info) (n : ℕ) (p : Piece) (f : Refusal) → Steady w → IsFound route w → IsRouted route (Send n p (Refused f)) → Refused f ≡ deliver_answer w n p → ⊥
+refused-never w None n p f st found goes h = goes
+refused-never w (Some i) n p f st found goes h = not-refused w i n p f st found goes h
+
+pub all-taken : (hs : List Happening) (route : Option Info) (w v : World) → Steady w → IsFound route w → AreRouted route hs → Each IsQuiet hs → Runs w hs v → AllTaken hs
+all-taken [] route w v st found routed quiet r = record { refusals = refl; losses = refl }
+all-taken (Moved e ∷ hs) route w v st found routed quiet r = absurd quiet.0
+all-taken (Did (Look k d (Looked.Rows infos)) ∷ hs) route w v st found routed quiet r =
+    let after : r.0 ≡ look_world w k d = r.1.1 in
+    let more = all-taken hs (route_by (Look k d (Looked.Rows infos))) r.0 v (subst Steady (sym after) (look-steady w k d st)) (subst (IsFound (route_by (Look k d (Looked.Rows infos)))) (sym after) (found-by w k d infos st r.1.0)) routed.1 quiet.1 r.2 in
+    let sums = one-taken hs _ _ more refl refl in
+    record { refusals = sums.0; losses = sums.1 }
+all-taken (Did (Look k d Looked.Lost) ∷ hs) route w v st found routed quiet r = absurd (quiet.0 tt)
+all-taken (Did (Send n p (Done rs)) ∷ hs) route w v st found routed quiet r =
+    let more = all-taken hs None r.0 v (subst Steady (sym r.1.1) (deliver-steady w n p st)) tt routed.1 quiet.1 r.2 in
+    let sums = one-taken hs _ _ more refl refl in
+    record { refusals = sums.0; losses = sums.1 }
+all-taken (Did (Send n p (Failed f)) ∷ hs) route w v st found routed quiet r =
+    let more = all-taken hs None r.0 v (subst Steady (sym r.1.1) (deliver-steady w n p st)) tt routed.1 quiet.1 r.2 in
+    let sums = one-taken hs _ _ more refl refl in
+    record { refusals = sums.0; losses = sums.1 }
+all-taken (Did (Send n p (Refused f)) ∷ hs) route w v st found routed quiet r = absurd (refused-never w route n p f st found routed.0 r.1.0)
+all-taken (Did (Send n p Lost) ∷ hs) route w v st found routed quiet r = absurd (quiet.0 tt)
+
+-- a budget of some tries is never used up where none is spent
+pub never-used-up : (budget r l : ℕ) (hs : List Happening) → 0 < budget → AllTaken hs → UsedUp budget r l hs → ⊥
+never-used-up budget r l hs some all used = let a = all.refusals in let b = all.losses in let c = used.refusals in let d = used.losses in let s = used.sum in omega (arith, some, a, b, c, d, s)
