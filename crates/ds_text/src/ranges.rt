@@ -3,7 +3,7 @@ ghost use Rattle.std.specs.Prelude.{◌≡◌, IfOk};
 ghost use Rattle.serde_json.specs.View.{view};
 ghost use Rattle.ds_text.specs.Ranges.{desc_data, info_data, looked_data, refusal_data};
 
-use crate::to_json::{ToJson, list_json};
+use crate::to_json::{ToJson, list_json, only_of};
 use ds_desc::{Info, Looked, RangeDesc, Refusal};
 use serde_json::{Value as Json, json};
 use std::alloc::{AllocError, Global};
@@ -52,10 +52,7 @@ impl ToJson for Refusal {
             Refusal::NotLease { lease } => {
                 json!(in alloc; {"lease": [lease.node, lease.number]})
             }
-            Refusal::Mismatch { infos } => {
-                let infos = infos.to_json(alloc)?;
-                json!(in alloc; {"mismatch": infos})
-            }
+            Refusal::Mismatch { infos } => only_of(alloc, "mismatch", infos),
         }
     }
 }
