@@ -136,6 +136,9 @@ split-kept k rs ds i r first at can =
     let top = greatest_id ds in
     became-unchanged (split_in top k) k rs ds (kept-changed (split_in top k) k rs i r first at (ap (λ b. cond b (record { ranges = left_part k r ∷ right_part (top + 1) k r ∷ drop (suc i) rs; made = (left_part k r).info.desc ∷ (right_part (top + 1) k r).info.desc ∷ [] }) (unchanged (r ∷ drop (suc i) rs))) can))
 
+pub split-none : (k : List ℕ) (rs : List Range) (ds : List RangeDesc) → Each (λ r. holds_key k r ≡ false) rs → Became (split_at k) (layout rs ds) (layout rs ds)
+split-none k rs ds none = became-none (split_in (greatest_id ds) k) k rs ds none
+
 two-in : (before after : List Range) (r y z : Range) (i : ℕ) → length before ≡ i → insert (set (before ++ r ∷ after) i y) (suc i) z ≡ before ++ y ∷ z ∷ after
 two-in [] after r y z zero place = refl
 two-in [] after r y z (suc i) place = absurd (omega (arith, place))

@@ -11,5 +11,6 @@ mod event;
 mod find;
 mod ranges;
 mod rows;
+mod shape;
 
 pub use ranges::Ranges;

@@ -5,15 +5,16 @@ ghost use Rattle.std.specs.List.{list_all};
 ghost use Rattle.ds_rule.specs.Begin.{first_world, is_leased, tiles};
 ghost use Rattle.ds_desc.specs.Descs.{back_from, containing};
 ghost use Rattle.ds_rule.specs.Keeping.{Keeps};
-ghost use Rattle.ds_rule.specs.Shifts.{foreign_at, lease_to, move_to};
+ghost use Rattle.ds_rule.specs.Shifts.{foreign_at, lease_to, merge_at, move_to, split_at};
 ghost use Rattle.ds_rule.specs.World.{World, has_id, holds_key, rows_at};
 ghost use Rattle.ds_ranges.specs.Layout.{Became, laid, layout_of};
 
 use crate::begin::{first_lineage, first_places, first_ranges};
-use crate::descs::{follow_at, id_of, note, own_place, range_at};
+use crate::descs::{follow_at, id_of, next_to, note, own_place, range_at};
 use crate::event::{lease_at, move_at, write_at};
 use crate::find::{find_id, find_key, place_of};
 use crate::rows::{ahead, first_rows};
+use crate::shape::{can_join, can_split, merge_both, note_two, split_both};
 use ds_base::{Dir, Key, Stamp, Value};
 use ds_desc::{Infos, Nodes, RangeDesc};
 use ds_lineage::Lineage;
@@ -150,6 +151,78 @@ impl Ranges {
                 let count = self.lineage.len();
                 follow_at(alloc, ranges, place, &mut self.lineage, at, &nodes)?;
                 move_at(&mut self.items, at, nodes);
+                note(&mut self.places, id, count);
+                Ok(())
+            }
+            None => Ok(()),
+        }
+    }
+
+    /// The range that holds the key is split at it: both parts have the replicas, the lease and the next
+    /// generation, and the right one a new id. Nothing changes where a range starts at the key, and where
+    /// the generation or the id can't rise. Want of memory leaves all as it was.
+    pub fn split(&mut self, alloc: Global, key: &Key) -> Result<(), AllocError>
+        ensures ok { OnOk result (Became (split_at key.now) self.old self.new) }
+        ensures err { OnErr result (self.new ≡ self.old) }
+    {
+        match place_of(self.items.as_slice(), key) {
+            Some(at) => {
+                let (ranges, places) = (self.items.as_slice(), self.places.as_slice());
+                let range = range_at(ranges, at);
+                let top = self.lineage.greatest_id();
+                if !can_split(range, key, top) {
+                    return Ok(());
+                }
+                let (id, next) = (id_of(range), top + 1);
+                let place = own_place(ranges, places, &self.lineage, at);
+                let count = self.lineage.len();
+                self.places.reserve(1)?;
+                split_both(
+                    alloc,
+                    &mut self.items,
+                    &mut self.lineage,
+                    place,
+                    at,
+                    key,
+                    next,
+                )?;
+                let last = self.lineage.len() - 1;
+                note_two(&mut self.places, id, count, last);
+                Ok(())
+            }
+            None => Ok(()),
+        }
+    }
+
+    /// The range that holds the key takes in its right neighbour: it keeps its id, its replicas and its
+    /// lease, with a generation above both. Nothing changes where it is the last range, and where no
+    /// generation is above both. Want of memory leaves all as it was.
+    pub fn merge(&mut self, alloc: Global, key: &Key) -> Result<(), AllocError>
+        ensures ok { OnOk result (Became (merge_at key.now) self.old self.new) }
+        ensures err { OnErr result (self.new ≡ self.old) }
+    {
+        match place_of(self.items.as_slice(), key) {
+            Some(at) => {
+                let (ranges, places) = (self.items.as_slice(), self.places.as_slice());
+                let next = at + 1;
+                if next >= ranges.len() {
+                    return Ok(());
+                }
+                let (left, right) = (range_at(ranges, at), next_to(ranges, at));
+                if !can_join(left, right) {
+                    return Ok(());
+                }
+                let id = id_of(left);
+                let first = own_place(ranges, places, &self.lineage, at);
+                let second = own_place(ranges, places, &self.lineage, next);
+                let count = self.lineage.len();
+                merge_both(
+                    alloc,
+                    &mut self.items,
+                    &mut self.lineage,
+                    (first, second),
+                    at,
+                )?;
                 note(&mut self.places, id, count);
                 Ok(())
             }
