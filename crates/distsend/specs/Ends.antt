@@ -117,15 +117,6 @@ abbrev pub Ends : Status → List (List ℕ) → Took → Put → Type 0
 Ends WriteFault words s k = (status : Status) × (puts_text status ≡ true) × (text : List ℕ) × Answered status words s text × PutFront k text
 Ends status words s k = (text : List ℕ) × Answered status words s text × PutWhole k text
 
--- what is put for a script that was read: the text of its replay, the fault of a line that isn't built, or nothing
-abbrev pub Replayed : List Numbered → Status → List ℕ → Type 0
-Replayed script Done text = (first_unbuilt script ≡ None) × IsReplay script text
-Replayed script BadScript text = (n : ℕ) × (first_unbuilt script ≡ Some n) × (text ≡ fault_text (unbuilt n))
-Replayed script Memory text = text ≡ []
-Replayed script Usage text = ⊥
-Replayed script ReadFault text = ⊥
-Replayed script WriteFault text = ⊥
-
 -- a fault of the sink comes in place of the log, and never of a fault of the source
 in_place_of_the_log : puts_text Done ≡ true
 in_place_of_the_log = refl

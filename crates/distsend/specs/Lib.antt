@@ -1,3 +1,4 @@
 pub mod Ends
 pub mod Exit
+pub mod Parts
 pub mod Texts

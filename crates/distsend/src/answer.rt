@@ -1,7 +1,8 @@
 //! The top call: from words and bytes to a status and bytes.
 ghost use Rattle.std.specs.Prelude.{◌≡◌, ◌≢◌, [], map, string_bytes, None, IsTrue, ◌↔◌, IfOk, MatchResult};
 ghost use Rattle.ds_replay.specs.Built.{first_unbuilt};
-ghost use Rattle.distsend.specs.Ends.{Answered, Ends, IsReplay, Replayed, command};
+ghost use Rattle.distsend.specs.Ends.{Answered, Ends, IsReplay, command};
+ghost use Rattle.distsend.specs.Parts.{Judged, Refuses, Replayed, Tells};
 
 use crate::status::Status;
 use crate::texts::{fault_text, usage_text};
@@ -27,6 +28,14 @@ pub fn run<S: Source, K: Sink>(
     ensures untouched { map string_bytes words.now ≢ command → script.new ≡ script.old }
 {
     let (status, text) = answer(alloc, words, script);
+    tell(out, status, &text)
+}
+
+/// Puts the text, and answers how the run ends with it.
+fn tell<K: Sink>(out: &mut K, status: Status, text: &Text) -> Status
+    ensures { Tells status result text.now
+        (record { held = K.held out.old; held_after = K.held out.new; faults = K.faults out.old; faults_after = K.faults out.new }) }
+{
     match put_all(out, text.as_str().as_bytes()) {
         Ok(()) => status,
         Err(_) => Status::WriteFault,
@@ -40,25 +49,42 @@ fn answer<S: Source>(alloc: Global, words: &[String], script: &mut S) -> (Status
         result.1 }
     ensures untouched { map string_bytes words.now ≢ command → script.new ≡ script.old }
 {
-    if !is_command(words) {
-        return or_memory(alloc, Status::Usage, usage_text(alloc));
+    if is_command(words) {
+        return answer_source(alloc, script);
     }
-    let bytes = match read_all(alloc, script) {
-        Ok(bytes) => bytes,
-        Err(ReadError::Fault) => return (Status::ReadFault, nothing(alloc)),
-        Err(ReadError::TooLong) => {
-            let line = fault_text(alloc, 0, FaultKind::TooLong);
-            return or_memory(alloc, Status::BadScript, line);
-        }
-        Err(ReadError::Memory(_)) => return (Status::Memory, nothing(alloc)),
-    };
-    match read_script(alloc, &bytes) {
+    or_memory(alloc, Status::Usage, usage_text(alloc))
+}
+
+/// The status, and what is put for it, where the words are the command.
+fn answer_source<S: Source>(alloc: Global, script: &mut S) -> (Status, Text)
+    ensures { Answered result.0 command
+        (record { left = S.left script.old; left_after = S.left script.new; faults = S.faults script.old; faults_after = S.faults script.new })
+        result.1 }
+{
+    match read_all(alloc, script) {
+        Ok(bytes) => answer_bytes(alloc, &bytes),
+        Err(ReadError::Fault) => (Status::ReadFault, nothing(alloc)),
+        Err(ReadError::TooLong) => refused(alloc, 0, FaultKind::TooLong),
+        Err(ReadError::Memory(_)) => (Status::Memory, nothing(alloc)),
+    }
+}
+
+/// What is put for the bytes that the source gave.
+fn answer_bytes(alloc: Global, bytes: &[u8]) -> (Status, Text)
+    ensures { Judged bytes.now result.0 result.1 }
+{
+    match read_script(alloc, bytes) {
         Ok(script) => replayed(alloc, &script),
-        Err(ScriptFault::Bad { line, kind }) => {
-            or_memory(alloc, Status::BadScript, fault_text(alloc, line, kind))
-        }
+        Err(ScriptFault::Bad { line, kind }) => refused(alloc, line, kind),
         Err(ScriptFault::Memory(_)) => (Status::Memory, nothing(alloc)),
     }
+}
+
+/// What is put for a fault.
+fn refused(alloc: Global, line: u32, kind: FaultKind) -> (Status, Text)
+    ensures { Refuses (record { line = line; kind = kind }) result.0 result.1 }
+{
+    or_memory(alloc, Status::BadScript, fault_text(alloc, line, kind))
 }
 
 fn nothing(alloc: Global) -> Text
@@ -95,11 +121,7 @@ fn replayed(alloc: Global, script: &Script) -> (Status, Text)
 {
     match first_unbuilt(script) {
         None => or_memory(alloc, Status::Done, log_text(alloc, script)),
-        Some(line) => or_memory(
-            alloc,
-            Status::BadScript,
-            fault_text(alloc, line, FaultKind::Shape),
-        ),
+        Some(line) => refused(alloc, line, FaultKind::Shape),
     }
 }
 

@@ -34,8 +34,8 @@ use Rattle.ds_replay.specs.Built.{is_sent, may_stand_by}
 use Rattle.ds_replay.specs.Comes.{MayCome}
 use Rattle.ds_replay.specs.Stages.{IsIn, HasOpen, StandsAt}
 use Rattle.ds_replay.specs.Taken.{LineTaken}
-use Rattle.ds_replay.proofs.Answering.{pends-any}
-use Rattle.ds_replay.proofs.AskedLine.{Owes, came, turned}
+use Rattle.ds_replay.proofs.Answering.{Came, pends-any}
+use Rattle.ds_replay.proofs.AskedLine.{Owes, Turned, came, turned}
 use Rattle.ds_replay.proofs.Readiness.{ready-alone, ready-open}
 use Rattle.ds_replay.proofs.Staying.{asker-stays, no-numbers, same-begun, same-txn, still-open}
 
@@ -61,6 +61,25 @@ owes-closed sim begun s p b at is here =
       pends = λ q asks. subst (Pends q.head.txn) (sym here.2) (alone-asker b at q is asks);
     }
 
+-- what a batch's line makes, from where it came to; `at` says the rest of where the replay stands then
+line-made : (old to : State) (sim new : Sim) (begun budget : ℕ) (t : Option Asker) (b : Batch) (block : Block) (n : ℕ) (log after : List Entry) (s : Played) (p : Store) (q : Asking) (by : AskedBy (state_of sim) (state_of new) budget t b n log after) → Came budget (begun_block (state_of sim) t b) by.mid s.asks p b q by.steps by.outcome → (tn : Turned s p b block n by.steps by.outcome by.mid.world) → IsIn sim begun s p → (IsIn new begun (record { world = by.mid.world; asks = answered_asks b by.outcome s.asks }) tn.next → StandsAt to (record { world = by.mid.world; asks = answered_asks b by.outcome s.asks }) tn.next) → LineTaken budget old to (lines.Batch b block) (Some (entries.Batch n by.steps by.outcome)) s p
+line-made old to sim new begun budget t b block n log after s p q by c tn here at = record {
+  played = record { world = by.mid.world; asks = answered_asks b by.outcome s.asks };
+  next = tn.next;
+  journal = tn.journal;
+  gathers = tn.gathers;
+  plain = tn.plain;
+  cause = c.cause;
+  comes = (c.comes, tt);
+  stands = at (record {
+    world = sym (ap (λ z. z.world) by.last);
+    stands = tn.stands;
+    steady = c.steady;
+    played = here.played;
+    stored = same-begun b by.outcome p tn.next tn.answered ∙ here.stored;
+  });
+}
+
 pub asked-closed : (sim new : Sim) (begun budget : ℕ) (b : Batch) (block : Block) (n : ℕ) (log after : List Entry) (s : Played) (p : Store) (by : AskedBy (state_of sim) (state_of new) budget None b n log after) → 0 < budget → (is_some b.at && is_sent b block) ≡ true → StandsAt (State.Closed sim begun) s p → LineTaken budget (State.Closed sim begun) (State.Closed new begun) (lines.Batch b block) (Some (entries.Batch n by.steps by.outcome)) s p
 asked-closed sim new begun budget b block n log after s p by tries fits here =
     let at = some_of b.at (and_first (is_some b.at) _ fits) in
@@ -68,26 +87,8 @@ asked-closed sim new begun budget b block n log after s p by tries fits here =
     let owes = owes-closed sim begun s p b at.0 at.1 here in
     let c = came (state_of sim) (state_of new) budget None p b s.asks n log after by tries (and_first (Sends.is_built b) _ sent) owes refl in
     let tn = turned budget s (state_of sim) by.mid None p b block n c.0 by.steps by.outcome here.0.world here.1 sent c.1 by.past c.2 in
-    record {
-      played = record { world = by.mid.world; asks = answered_asks b by.outcome s.asks };
-      next = tn.next;
-      journal = tn.journal;
-      gathers = tn.gathers;
-      plain = tn.plain;
-      cause = c.2.cause;
-      comes = (c.2.comes, tt);
-      stands = (
-        record {
-          world = sym (ap (λ z. z.world) by.last);
-          stands = tn.stands;
-          steady = c.2.steady;
-          played = here.0.played;
-          stored = same-begun b by.outcome p tn.next tn.answered ∙ here.0.stored;
-        },
-        subst (λ x. if_of_txn x (asker_after b by.outcome) s.asks.asker ≡ None) (sym at.1) here.1,
-        same-txn b by.outcome at.0 p tn.next at.1 tn.answered ∙ here.2,
-      );
-    }
+    line-made (State.Closed sim begun) (State.Closed new begun) sim new begun budget None b block n log after s p c.0 by c.2 tn here.0
+    (λ i. (i, subst (λ x. if_of_txn x (asker_after b by.outcome) s.asks.asker ≡ None) (sym at.1) here.1, same-txn b by.outcome at.0 p tn.next at.1 tn.answered ∙ here.2))
 
 -- beside an open transaction, or of it
 
@@ -144,23 +145,5 @@ asked-open sim new txn begun budget b block n log after s p by tries fits asked 
     let owes = owes-open p.txn sim txn begun s p b refl may asked here.0 here.1 here.2 in
     let c = came (state_of sim) (state_of new) budget (Some (asker_of txn)) p b s.asks n log after by tries built owes refl in
     let tn = turned budget s (state_of sim) by.mid (Some (asker_of txn)) p b block n c.0 by.steps by.outcome here.0.world here.1 sent c.1 by.past c.2 in
-    record {
-      played = record { world = by.mid.world; asks = answered_asks b by.outcome s.asks };
-      next = tn.next;
-      journal = tn.journal;
-      gathers = tn.gathers;
-      plain = tn.plain;
-      cause = c.2.cause;
-      comes = (c.2.comes, tt);
-      stands = (
-        record {
-          world = sym (ap (λ z. z.world) by.last);
-          stands = tn.stands;
-          steady = c.2.steady;
-          played = here.0.played;
-          stored = same-begun b by.outcome p tn.next tn.answered ∙ here.0.stored;
-        },
-        asker-open b.at b by.outcome s.asks.asker (asker_of txn) refl built here.1,
-        open-after b.at txn b by.outcome p tn.next refl built c.2.comes here.2 tn.answered,
-      );
-    }
+    line-made (State.Open sim txn begun) (State.Open new txn begun) sim new begun budget (Some (asker_of txn)) b block n log after s p c.0 by c.2 tn here.0
+    (λ i. (i, asker-open b.at b by.outcome s.asks.asker (asker_of txn) refl built here.1, open-after b.at txn b by.outcome p tn.next refl built c.2.comes here.2 tn.answered))

@@ -102,6 +102,9 @@ abbrev pub has_text : Outcome → Bool
 has_text outcomes.OutOfMemory = false
 has_text o = true
 
+abbrev pub exhausted_data : ℕ → ℕ → Data
+exhausted_data refused lost = only (codes "retry_exhausted") (object (member (codes "lost") (nat lost) (lone (codes "refused") (nat refused))))
+
 abbrev pub outcome_data : Outcome → Data
 outcome_data (outcomes.Ok replies) = only (codes "ok") (list_data reply_data replies)
 outcome_data (outcomes.Illegal x) = only (codes "illegal") (illegal_data x)
@@ -115,7 +118,7 @@ outcome_data (outcomes.NotInteger i) = at_data (codes "not_integer") i
 outcome_data (outcomes.Overflow i) = at_data (codes "overflow") i
 outcome_data outcomes.TxnAborted = only (codes "txn_aborted") empty
 outcome_data (outcomes.Ambiguous lost) = only (codes "ambiguous") (only (codes "lost") (nat lost))
-outcome_data (outcomes.RetryExhausted refused lost) = only (codes "retry_exhausted") (object (member (codes "lost") (nat lost) (lone (codes "refused") (nat refused))))
+outcome_data (outcomes.RetryExhausted refused lost) = exhausted_data refused lost
 outcome_data outcomes.OutOfMemory = empty
 
 abbrev pub answer_line : ℕ → Outcome → Data

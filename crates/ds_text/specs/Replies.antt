@@ -25,13 +25,17 @@ status_data s = string (status_text s)
 abbrev pub row_data : Row → Data
 row_data r = tuple (key_data r.key ∷ value_data r.value ∷ [])
 
+-- the keys that were deleted, and their number
+abbrev pub gone_members : List (List ℕ) → Members
+gone_members keys = member (codes "keys") (list_data key_data keys) (lone (codes "num") (nat (length keys)))
+
 -- what a reply says, by the kind of its request
 abbrev pub body_members : Body → Members
 body_members (bodies.Got v) = lone (codes "value") (option_data value_data v)
 body_members (bodies.Rows rows) = lone (codes "rows") (list_data row_data rows)
 body_members bodies.Unit = no_members
 body_members (bodies.Number z) = lone (codes "value") (number (of_integer z))
-body_members (bodies.Gone keys) = member (codes "keys") (list_data key_data keys) (lone (codes "num") (nat (length keys)))
+body_members (bodies.Gone keys) = gone_members keys
 body_members (bodies.Ended s) = lone (codes "status") (status_data s)
 body_members (bodies.Found b) = lone (codes "found") (boolean b)
 

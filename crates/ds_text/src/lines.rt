@@ -1,10 +1,12 @@
 //! The object of each line: a step, an answer, a close or a restart.
 ghost use Rattle.std.specs.Prelude.{◌≡◌, true, IfOk};
 ghost use Rattle.serde_json.specs.View.{view, members_view};
-ghost use Rattle.ds_text.specs.Lines.{item_data, waits, is_staged, answer_data, step_data, send_members, code_of, place_of, illegal_data, has_text, outcome_data, answer_line, close_line, restart_line, fault_line};
+ghost use Rattle.ds_text.specs.Lines.{item_data, waits, is_staged, answer_data, step_data, send_members, code_of, place_of, illegal_data, has_text, exhausted_data, outcome_data, answer_line, close_line, restart_line, fault_line};
 
 use crate::replies::{at_json, condition_json, too_old_json};
-use crate::to_json::{ToJson, after_text, dir_name, key_text, lone, put_some};
+use crate::to_json::{
+    ToJson, after_text, bare, dir_name, key_text, lone, only, only_in, only_of, put_some,
+};
 use ds_kind::{Bounds, Illegal, Item, Piece, Request, TxnStatus};
 use ds_rule::{Answer, JournalStep, Outcome};
 use serde_json::{Map, Value as Json, json};
@@ -114,14 +116,8 @@ impl ToJson for Answer {
 
     fn to_json(&self, alloc: Global) -> Result<Json, AllocError> {
         match self {
-            Answer::Done(replies) => {
-                let replies = replies.to_json(alloc)?;
-                json!(in alloc; {"done": replies})
-            }
-            Answer::Failed(failure) => {
-                let failure = failure.to_json(alloc)?;
-                json!(in alloc; {"failed": failure})
-            }
+            Answer::Done(replies) => only_of(alloc, "done", replies),
+            Answer::Failed(failure) => only_of(alloc, "failed", failure),
             Answer::Refused(refusal) => refusal.to_json(alloc),
             Answer::Lost => Json::try_from_str(alloc, "lost"),
         }
@@ -174,42 +170,36 @@ impl ToJson for Illegal {
     }
 }
 
+/// The budget of refusals and losses was used up.
+fn exhausted_json(alloc: Global, refused: u32, lost: u32) -> Result<Json, AllocError>
+    ensures { IfOk result (λ j. view j ≡ exhausted_data refused lost) }
+{
+    only(
+        alloc,
+        "retry_exhausted",
+        json!(in alloc; {"lost": lost, "refused": refused})?,
+    )
+}
+
 /// What a batch comes to.
 fn outcome_json(alloc: Global, outcome: &Outcome) -> Result<Json, AllocError>
     requires { has_text outcome.now ≡ true }
     ensures { IfOk result (λ j. view j ≡ outcome_data outcome.now) }
 {
     match outcome {
-        Outcome::Ok { replies } => {
-            let replies = replies.to_json(alloc)?;
-            json!(in alloc; {"ok": replies})
-        }
-        Outcome::Illegal(illegal) => {
-            let illegal = illegal.to_json(alloc)?;
-            json!(in alloc; {"illegal": illegal})
-        }
-        Outcome::MustRollBack { since } => json!(in alloc; {"must_roll_back": {"since": *since}}),
-        Outcome::TxnOver { status } => {
-            let status = status.to_json(alloc)?;
-            json!(in alloc; {"txn_over": {"status": status}})
-        }
-        Outcome::OpRequiresTxn { desc } => {
-            let desc = desc.to_json(alloc)?;
-            json!(in alloc; {"op_requires_txn": {"desc": desc}})
-        }
-        Outcome::NotOnePhase { desc } => {
-            let desc = desc.to_json(alloc)?;
-            json!(in alloc; {"not_one_phase": {"desc": desc}})
-        }
+        Outcome::Ok { replies } => only_of(alloc, "ok", replies),
+        Outcome::Illegal(illegal) => only_of(alloc, "illegal", illegal),
+        Outcome::MustRollBack { since } => only_in(alloc, "must_roll_back", "since", since),
+        Outcome::TxnOver { status } => only_in(alloc, "txn_over", "status", status),
+        Outcome::OpRequiresTxn { desc } => only_in(alloc, "op_requires_txn", "desc", desc),
+        Outcome::NotOnePhase { desc } => only_in(alloc, "not_one_phase", "desc", desc),
         Outcome::ConditionFailed { i, actual } => condition_json(alloc, *i, actual),
         Outcome::WriteTooOld { i, key, stamp } => too_old_json(alloc, *i, key, *stamp),
         Outcome::NotInteger { i } => at_json(alloc, "not_integer", *i),
         Outcome::Overflow { i } => at_json(alloc, "overflow", *i),
-        Outcome::TxnAborted => json!(in alloc; {"txn_aborted": {}}),
-        Outcome::Ambiguous { lost } => json!(in alloc; {"ambiguous": {"lost": *lost}}),
-        Outcome::RetryExhausted { refused, lost } => {
-            json!(in alloc; {"retry_exhausted": {"lost": *lost, "refused": *refused}})
-        }
+        Outcome::TxnAborted => bare(alloc, "txn_aborted"),
+        Outcome::Ambiguous { lost } => only_in(alloc, "ambiguous", "lost", lost),
+        Outcome::RetryExhausted { refused, lost } => exhausted_json(alloc, *refused, *lost),
         Outcome::OutOfMemory => unreachable!(),
     }
 }

@@ -1,21 +1,42 @@
 //! Descriptors, leases, and what lookups and nodes answer, in JSON.
-ghost use Rattle.std.specs.Prelude.{◌≡◌, IfOk};
+ghost use Rattle.std.specs.Prelude.{◌≡◌, ◌++◌, map, IfOk, OnOk};
 ghost use Rattle.serde_json.specs.View.{view};
-ghost use Rattle.ds_text.specs.Ranges.{desc_data, info_data, looked_data, refusal_data};
+ghost use Rattle.ds_text.specs.Ranges.{desc_items, desc_data, lease_items, info_data, looked_data, refusal_data};
 
-use crate::to_json::{ToJson, list_json};
-use ds_desc::{Info, Looked, RangeDesc, Refusal};
+use crate::to_json::{ToJson, list_json, only_of};
+use ds_desc::{Info, Lease, Looked, RangeDesc, Refusal};
 use serde_json::{Value as Json, json};
 use std::alloc::{AllocError, Global};
+
+/// What the array of a descriptor has.
+fn desc_items(alloc: Global, desc: &RangeDesc) -> Result<Vec<Json>, AllocError>
+    ensures { IfOk result (λ v. map view v.items ≡ desc_items desc.now) }
+{
+    let start = desc.span.start.to_json(alloc)?;
+    let end = desc.span.end.to_json(alloc)?;
+    let nodes = list_json(alloc, desc.nodes.as_slice())?;
+    Ok(vec![in alloc;
+        Json::from(desc.id),
+        start,
+        end,
+        Json::from(desc.generation),
+        nodes,
+    ]?)
+}
+
+/// Adds what the array of a lease has.
+fn add_lease(items: &mut Vec<Json>, lease: Lease) -> Result<(), AllocError>
+    ensures { OnOk result (map view (items.new).items ≡ map view (items.old).items ++ lease_items lease) }
+{
+    items.push(Json::from(lease.node))?;
+    Ok(items.push(Json::from(lease.number))?)
+}
 
 impl ToJson for RangeDesc {
     ghost form = { λ d. desc_data d };
 
     fn to_json(&self, alloc: Global) -> Result<Json, AllocError> {
-        let start = self.span.start.to_json(alloc)?;
-        let end = self.span.end.to_json(alloc)?;
-        let nodes = list_json(alloc, self.nodes.as_slice())?;
-        json!(in alloc; [self.id, start, end, self.generation, nodes])
+        Ok(Json::Array(desc_items(alloc, self)?))
     }
 }
 
@@ -23,12 +44,9 @@ impl ToJson for Info {
     ghost form = { λ i. info_data i };
 
     fn to_json(&self, alloc: Global) -> Result<Json, AllocError> {
-        let desc = &self.desc;
-        let start = desc.span.start.to_json(alloc)?;
-        let end = desc.span.end.to_json(alloc)?;
-        let nodes = list_json(alloc, desc.nodes.as_slice())?;
-        let lease = self.lease;
-        json!(in alloc; [desc.id, start, end, desc.generation, nodes, lease.node, lease.number])
+        let mut items = desc_items(alloc, &self.desc)?;
+        add_lease(&mut items, self.lease)?;
+        Ok(Json::Array(items))
     }
 }
 
@@ -52,10 +70,7 @@ impl ToJson for Refusal {
             Refusal::NotLease { lease } => {
                 json!(in alloc; {"lease": [lease.node, lease.number]})
             }
-            Refusal::Mismatch { infos } => {
-                let infos = infos.to_json(alloc)?;
-                json!(in alloc; {"mismatch": infos})
-            }
+            Refusal::Mismatch { infos } => only_of(alloc, "mismatch", infos),
         }
     }
 }

@@ -1,10 +1,10 @@
 //! Replies and failures in JSON.
 ghost use Rattle.std.specs.Prelude.{◌≡◌, IfOk};
 ghost use Rattle.serde_json.specs.View.{view, members_view};
-ghost use Rattle.ds_text.specs.Replies.{row_data, reply_data, body_members, failure_data, status_text, status_data, condition_data, too_old_data, at_data};
+ghost use Rattle.ds_text.specs.Replies.{row_data, reply_data, gone_members, body_members, failure_data, status_text, status_data, condition_data, too_old_data, at_data};
 
-use crate::to_json::{ToJson, lone, put_some};
-use ds_base::{Key, Stamp, Value};
+use crate::to_json::{ToJson, bare, lone, only, only_in, put_some};
+use ds_base::{Key, Keys, Stamp, Value};
 use ds_kind::{Body, Failure, Reply, Row, TxnStatus};
 use serde_json::{Map, Value as Json, json};
 use std::alloc::{AllocError, Global};
@@ -50,8 +50,8 @@ impl ToJson for Failure {
             Failure::TooOld { i, key, stamp } => too_old_json(alloc, *i, key, *stamp),
             Failure::NotInteger { i } => at_json(alloc, "not_integer", *i),
             Failure::Overflow { i } => at_json(alloc, "overflow", *i),
-            Failure::Aborted => json!(in alloc; {"txn_aborted": {}}),
-            Failure::Committed => json!(in alloc; {"txn_committed": {}}),
+            Failure::Aborted => bare(alloc, "txn_aborted"),
+            Failure::Committed => bare(alloc, "txn_committed"),
         }
     }
 }
@@ -77,14 +77,19 @@ fn body_members(alloc: Global, body: &Body) -> Result<Map<String, Json>, AllocEr
         Body::Rows(rows) => lone(alloc, "rows", rows.to_json(alloc)?),
         Body::Unit => Ok(Map::new(alloc)),
         Body::Number(n) => lone(alloc, "value", Json::from(*n)),
-        Body::Gone(keys) => {
-            let mut members = lone(alloc, "keys", keys.to_json(alloc)?)?;
-            serde_json::put(&mut members, alloc, "num", Json::from(keys.len()))?;
-            Ok(members)
-        }
+        Body::Gone(keys) => gone_members(alloc, keys),
         Body::Ended(status) => lone(alloc, "status", status.to_json(alloc)?),
         Body::Found(found) => lone(alloc, "found", Json::from(*found)),
     }
+}
+
+/// The keys that were deleted, and their number.
+fn gone_members(alloc: Global, keys: &Keys) -> Result<Map<String, Json>, AllocError>
+    ensures { IfOk result (λ m. members_view m.entries ≡ gone_members keys.now) }
+{
+    let mut members = lone(alloc, "keys", keys.to_json(alloc)?)?;
+    serde_json::put(&mut members, alloc, "num", Json::from(keys.len()))?;
+    Ok(members)
 }
 
 /// Another value was seen than the one expected.
@@ -96,7 +101,11 @@ pub(crate) fn condition_json(
     ensures { IfOk result (λ j. view j ≡ condition_data i actual.now) }
 {
     let actual = actual.to_json(alloc)?;
-    json!(in alloc; {"condition_failed": {"actual": actual, "i": i}})
+    only(
+        alloc,
+        "condition_failed",
+        json!(in alloc; {"actual": actual, "i": i})?,
+    )
 }
 
 /// A version at this stamp stands at or above the write's.
@@ -110,13 +119,16 @@ pub(crate) fn too_old_json(
 {
     let key = key.to_json(alloc)?;
     let stamp = stamp.0;
-    json!(in alloc; {"write_too_old": {"i": i, "key": key, "stamp": stamp}})
+    only(
+        alloc,
+        "write_too_old",
+        json!(in alloc; {"i": i, "key": key, "stamp": stamp})?,
+    )
 }
 
 /// A cause that names nothing but the position of the request in its batch.
 pub(crate) fn at_json(alloc: Global, cause: &str, i: u32) -> Result<Json, AllocError>
     ensures { IfOk result (λ j. view j ≡ at_data cause.now i) }
 {
-    let place = json!(in alloc; {"i": i})?;
-    Ok(Json::Object(lone(alloc, cause, place)?))
+    only_in(alloc, cause, "i", &i)
 }

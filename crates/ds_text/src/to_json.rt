@@ -4,7 +4,7 @@ ghost use Rattle.std.specs.Str.{encode_utf8_all};
 ghost use Rattle.ds_base.specs.Order.{Extent, after};
 ghost use Rattle.serde_json.specs.Data.{string};
 ghost use Rattle.serde_json.specs.View.{view, members_view};
-ghost use Rattle.ds_text.specs.Simple.{nat, key_data, value_data, option_data, list_data, span_data, dir_text, with_member, lone};
+ghost use Rattle.ds_text.specs.Simple.{nat, key_data, value_data, option_data, list_data, span_data, dir_text, with_member, lone, only, empty};
 
 use ds_base::{Dir, Key, ListOf, Span, Text, Value};
 use serde_json::{Map, Value as Json, json};
@@ -142,6 +142,39 @@ pub(crate) fn lone(alloc: Global, name: &str, value: Json) -> Result<Map<String,
     let mut members = Map::new(alloc);
     serde_json::put(&mut members, alloc, name, value)?;
     Ok(members)
+}
+
+/// The object of one member.
+pub(crate) fn only(alloc: Global, name: &str, value: Json) -> Result<Json, AllocError>
+    ensures { IfOk result (λ j. view j ≡ only name.now (view value)) }
+{
+    Ok(Json::Object(lone(alloc, name, value)?))
+}
+
+/// The object of one member, which is nothing.
+pub(crate) fn bare(alloc: Global, name: &str) -> Result<Json, AllocError>
+    ensures { IfOk result (λ j. view j ≡ only name.now empty) }
+{
+    only(alloc, name, Json::Object(Map::new(alloc)))
+}
+
+/// The object of one member, which is this value.
+pub(crate) fn only_of<T: ToJson>(alloc: Global, name: &str, value: &T) -> Result<Json, AllocError>
+    ensures { IfOk result (λ j. view j ≡ only name.now (T.form value.now)) }
+{
+    only(alloc, name, value.to_json(alloc)?)
+}
+
+/// The same in an object of one member.
+pub(crate) fn only_in<T: ToJson>(
+    alloc: Global,
+    outer: &str,
+    name: &str,
+    value: &T,
+) -> Result<Json, AllocError>
+    ensures { IfOk result (λ j. view j ≡ only outer.now (only name.now (T.form value.now))) }
+{
+    only(alloc, outer, only_of(alloc, name, value)?)
 }
 
 /// Puts a member in its place, if there is one.
