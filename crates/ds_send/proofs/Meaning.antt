@@ -1,5 +1,5 @@
 -- What a batch's steps mean, as the sender's clauses say it.
-use Rattle.std.proofs.Common.{◌≡◌, ℕ, Bool, true, false, Option, Some, None, Result, Ok, Err, IfOk, is_some, is_none, sym, subst}
+use Rattle.std.proofs.Common.{◌≡◌, ℕ, Bool, true, false, Option, Some, None, Result, Ok, Err, IfOk, is_some, is_none, sym, subst, ◌∙◌}
 use Rattle.std.specs.declared.alloc.AllocError.{AllocError}
 use Rattle.ds_base.proofs.SmallFacts.{and_first, and_second, some_of}
 use Rattle.ds_kind.specs.declared.batch.Batch.{Batch}
@@ -21,13 +21,13 @@ use Rattle.ds_send.proofs.Readings.{as-items, none-limit}
 pub each-sendable : (t : Option Asker) (b : Batch) (q : Asking) → IsLegal b → is_built b ≡ true → asking t b ≡ Some q → IsSendable q
 each-sendable t b q legal built asks =
     let as_ = as-items b.at t b q asks in
-    sendable b q as_.last legal built as_.items
+    sendable b q as_.last legal built as_.items (as_.left ∙ none-limit b.limit (and_first (is_none b.limit) _ built))
 
 pub single-sendable : (t : Option Asker) (b : Batch) (q : Asking) → IsLegal b → is_built b ≡ true → is_whole b ≡ true → asking t b ≡ Some q → IsWholeSendable q
 single-sendable t b q legal built whole asks =
     let as_ = as-items b.at t b q asks in
     let s = some_of b.at (and_first (is_some b.at) _ whole) in
-    whole-sendable b q as_.last s.0 legal s.1 (and_second (is_none b.limit) _ built) as_.items
+    whole-sendable b q as_.last s.0 legal s.1 (and_second (is_none b.limit) _ built) as_.items (as_.left ∙ none-limit b.limit (and_first (is_none b.limit) _ built))
 
 -- what the steps mean
 

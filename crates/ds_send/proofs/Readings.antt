@@ -73,18 +73,19 @@ pub none-limit : (o : Option ℕ) → is_none o ≡ true → o ≡ None
 none-limit None h = refl
 none-limit (Some n) h = cc
 
--- the batch as it is asked has its requests, in order
+-- the batch as it is asked has its requests, in order, and its limit
 pub record AsItems (b : Batch) (q : Asking) : Type 0 where
   pub last : ℕ
   pub items : q.items ≡ items_from 0 b.requests (numbers_from last b.requests)
+  pub left : q.head.left ≡ b.limit
 
 items-in : (o : Asking) (q : Asking) → Some o ≡ Some q → o ≡ q
 items-in o q h = cc
 
 pub as-items : (at : Option Stamp) (t : Option Asker) (b : Batch) (q : Asking) → asking_by at t b ≡ Some q → AsItems b q
-as-items (Some s) t b q h = record { last = 0; items = ap (λ z. z.items) (sym (items-in _ q h)) }
+as-items (Some s) t b q h = record { last = 0; items = ap (λ z. z.items) (sym (items-in _ q h)); left = ap (λ z. z.head.left) (sym (items-in _ q h)) }
 as-items None None b q h = cc
-as-items None (Some t) b q h = record { last = t.last; items = ap (λ z. z.items) (sym (items-in _ q h)) }
+as-items None (Some t) b q h = record { last = t.last; items = ap (λ z. z.items) (sym (items-in _ q h)); left = ap (λ z. z.head.left) (sym (items-in _ q h)) }
 
 pub reading : (t : Option Asker) (b : Batch) (q : Asking) → IsLegal b → is_built b ≡ true → is_whole b ≡ false → asking t b ≡ Some q → IsReading b q
 reading t b q legal built whole asks =

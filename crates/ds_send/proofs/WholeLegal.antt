@@ -57,14 +57,15 @@ none-of-built p at (r ∷ rs) never h =
     or_neither (p r) (list_any p rs) (never r (built-plain at r (and_first _ (list_all (is_built_request at) rs) h))) (none-of-built p at rs never (and_second (is_built_request at r) _ h))
 
 -- a legal batch of what is built can be sent request by request
-pub sendable : (b : Batch) (q : Asking) (last : ℕ) → IsLegal b → is_built b ≡ true → q.items ≡ items_from 0 b.requests (numbers_from last b.requests) → IsSendable q
-sendable b q last legal built is =
+pub sendable : (b : Batch) (q : Asking) (last : ℕ) → IsLegal b → is_built b ≡ true → q.items ≡ items_from 0 b.requests (numbers_from last b.requests) → q.head.left ≡ None → IsSendable q
+sendable b q last legal built is unlimited =
     let rs : requests_of q.items ≡ b.requests = ap requests_of is ∙ requests-numbered 0 last b.requests in
     let all : list_all (is_built_request b.at) b.requests ≡ true = and_second (is_none b.limit) _ built in
     record {
       rising = subst (Rises position_of) (sym is) (positions-rise 0 last b.requests);
       proper = ap (list_all has_proper_span) rs ∙ legal.spans;
       forward = ap (list_any is_reverse_scan) rs ∙ none-of-built is_reverse_scan b.at b.requests plain-forward all;
+      unlimited = unlimited;
     }
 
 -- requests that join one group fit each other
@@ -156,8 +157,8 @@ batch-fits b legal at built =
     ] refl
 
 -- a legal batch of what is built, with a stamp, can be sent in one piece
-pub whole-sendable : (b : Batch) (q : Asking) (last : ℕ) (s : Stamp) → IsLegal b → b.at ≡ Some s → list_all (is_built_request b.at) b.requests ≡ true → q.items ≡ items_from 0 b.requests (numbers_from last b.requests) → IsWholeSendable q
-whole-sendable b q last s legal at built is =
+pub whole-sendable : (b : Batch) (q : Asking) (last : ℕ) (s : Stamp) → IsLegal b → b.at ≡ Some s → list_all (is_built_request b.at) b.requests ≡ true → q.items ≡ items_from 0 b.requests (numbers_from last b.requests) → q.head.left ≡ None → IsWholeSendable q
+whole-sendable b q last s legal at built is unlimited =
     let rs : requests_of q.items ≡ b.requests = ap requests_of is ∙ requests-numbered 0 last b.requests in
     let size : length (requests_of q.items) ≡ length q.items = length-map q.items (λ (i : Item). i.request) in
     let same : length (requests_of q.items) ≡ length b.requests = ap length rs in
@@ -169,4 +170,5 @@ whole-sendable b q last s legal at built is =
       forward = ap (list_any is_reverse_scan) rs ∙ none-of-built is_reverse_scan b.at b.requests plain-forward built;
       endless = ap (list_any is_end) rs ∙ none-of-built is_end b.at b.requests plain-endless built;
       fit = ap all_fit rs ∙ batch-fits b legal (ap is_some at) built;
+      unlimited = unlimited;
     }

@@ -56,6 +56,7 @@ pub record IsSendable (q : Asking) : Type 0 where
   pub rising : Rises position_of q.items
   pub proper : list_all has_proper_span (requests_of q.items) ≡ true
   pub forward : list_any is_reverse_scan (requests_of q.items) ≡ false
+  pub unlimited : q.head.left ≡ None
 
 -- one piece was served: the request's part from m to k, with this body
 pub record On (q : Asking) (a b : Stands) (i : Item) (m e k : List ℕ) (body : Body) : Type 0 where
@@ -132,6 +133,7 @@ pub record IsWholeSendable (q : Asking) : Type 0 where
   pub forward : list_any is_reverse_scan (requests_of q.items) ≡ false
   pub endless : list_any is_end (requests_of q.items) ≡ false
   pub fit : all_fit (requests_of q.items) ≡ true
+  pub unlimited : q.head.left ≡ None
 
 -- a write that does harm where it is done twice
 abbrev pub is_risky : Request → Bool

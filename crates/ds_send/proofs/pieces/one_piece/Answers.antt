@@ -64,3 +64,6 @@ returns g c =
     let look = rw c.in-Some.is at c.in_ok-info.ensures.step in
     let sent = sent-part c.args.asked.now _ _ _ c.args.item.now c.in-Some.info look.0 c.args.at.now c.args.end.now c.in_ok-stop.stop c.in_ok-piece.piece c.in_ok-replies.field-0 Lost c.requires.sendable c.requires.one_of c.requires.from c.requires.below c.requires.to (rw c.in-Some.is at c.in_ok-info.ensures.holds) c.in_ok-stop.ensures c.in_ok-piece.ensures look.1 c.in_ok-replies.ensures c.in-Lost.is in
     sent-trip c.args.asked.now _ _ _ _ _ Lost sent
+
+pub send-requires : goal.send-requires
+send-requires g c = ap (λ p. p.head.left) c.in_ok-piece.ensures ∙ c.requires.sendable.unlimited

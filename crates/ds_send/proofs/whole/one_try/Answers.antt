@@ -57,3 +57,6 @@ returns g c =
     let holds = holds-whole i.desc.span c.args.span.now (whole_span c.args.asked.now.items) c.holds.result true c.requires.whole c.holds.ensures c.if-not-holds.false in
     lost-once c.args.asked.now _ _ _ i.lease.node c.in_ok-piece.piece
     (goes c.args.asked.now _ _ _ c.span.inside.start i look.0 c.in_ok-piece.piece c.in_ok-replies.field-0 Lost c.requires.sendable holds look.1 c.in_ok-piece.ensures c.in_ok-replies.ensures c.in-Lost.is)
+
+pub send-requires : goal.send-requires
+send-requires g c = ap (λ p. p.head.left) c.in_ok-piece.ensures ∙ c.requires.sendable.unlimited
