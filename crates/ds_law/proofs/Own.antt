@@ -61,7 +61,7 @@ rest-own rest (Fails f) h = h
 rest-own rest (Gives cells ws rs) h = tt
 
 left-own : (h : Head) (left : Option ℕ) (i : Item) (cells : Cells) → IsOwn (ask_left h left i cells)
-left-own h left i cells = left-by IsOwn h left i cells rest-own tt (λ j keep. made-own h j (ask_request j.request (at_of h j.seq.0) cells) cells)
+left-own h left i cells = left-by IsOwn h left i cells rest-own tt (λ j short keep. made-own h j (ask_request j.request (at_of h j.seq.0) cells) cells)
 
 and-own : (ts : List TxnRecord) (left : Option ℕ) (q : Request) (m : Made) (next : Option ℕ → Cells → Made) → IsOwn m → ((o : Option ℕ) (cells : Cells) → IsOwn (next o cells)) → IsOwn (and_left ts left q m next)
 and-own ts left q (Fails f) next h more = h

@@ -79,7 +79,7 @@ fits_rest s r rest (Gives cells ws rs) t = t
 fits_some : (s : List ℕ) (r : Range) (h : Head) (left : Option ℕ) (i : Item) (cells : Cells) → holds_item r i ≡ true → Fits s (holding r cells) → FitsMade s r (ask_left h left i cells)
 fits_some s r h left i cells held t =
     left-by (FitsMade s r) h left i cells (fits_rest s r) (t, tt)
-    (λ j keep. fits_one s r h j cells (ask_request j.request (at_of h j.seq.0) cells) (keep r held) refl t)
+    (λ j short keep. fits_one s r h j cells (ask_request j.request (at_of h j.seq.0) cells) (keep r held) refl t)
 
 -- what is resolved stays at its keys
 

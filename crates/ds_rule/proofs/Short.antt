@@ -1,5 +1,5 @@
 -- A request of which a limit lets only so much be taken stays in its range.
-use Rattle.std.proofs.Common.{◌≡◌, ℕ, zero, suc, Bool, true, false, not, cond, List, [], ◌∷◌, map, Option, Some, None, refl, ap, ◌∙◌}
+use Rattle.std.proofs.Common.{◌≡◌, ℕ, zero, suc, Bool, true, false, not, cond, List, [], ◌∷◌, map, Option, Some, None, refl, ap, ◌∙◌, ◌⊎◌, inl, inr}
 use Rattle.std.specs.List.{filter}
 use Rattle.ds_base.specs.Order.{Extent, after, holds, key_cmp, key_le, key_lt}
 use Rattle.ds_base.proofs.KeyOrder.{after-above}
@@ -87,14 +87,18 @@ short-held r i e lies h =
     (le_trans (start_of r) (span_of i.request).start (span_of (cut_to e.start e.end i.request)).start (and_first _ _ h) cut.0)
     (le_trans (span_of (cut_to e.start e.end i.request)).end (span_of i.request).end (end_of r) cut.1 (and_second (key_le (start_of r) (span_of i.request).start) _ h))
 
--- what holds of each item that no range loses, holds of one of which only so much may be taken
-pub left-by : (P : Made → Type 0) (h : Head) (left : Option ℕ) (i : Item) (cells : Cells) → ((rest : Option Extent) (m : Made) → P m → P (with_rest rest m)) → P (held_off i cells) → ((j : Item) → ((r : Range) → holds_item r i ≡ true → holds_item r j ≡ true) → P (ask_item h j cells)) → P (ask_left h left i cells)
-left-by P h None i cells rest off one = one i (λ r held. held)
+-- the item itself, or a part of it
+abbrev pub IsShort : Item → Item → Type 0
+IsShort i j = (j ≡ i) ⊎ ((e : Extent) × (j ≡ item_in e i))
+
+-- what holds of an item and of its parts that no range loses, holds of it where only so much may be taken
+pub left-by : (P : Made → Type 0) (h : Head) (left : Option ℕ) (i : Item) (cells : Cells) → ((rest : Option Extent) (m : Made) → P m → P (with_rest rest m)) → P (held_off i cells) → ((j : Item) → IsShort i j → ((r : Range) → holds_item r i ≡ true → holds_item r j ≡ true) → P (ask_item h j cells)) → P (ask_left h left i cells)
+left-by P h None i cells rest off one = one i (inl refl) (λ r held. held)
 left-by P h (Some zero) i cells rest off one = off
 left-by P h (Some (suc n)) i cells rest off one =
     elim (last_taken n (taken_keys i.request (at_of h i.seq.0) cells)) as (λ o. last_taken n (taken_keys i.request (at_of h i.seq.0) cells) ≡ o → P (ask_up_to h o i cells)) [
-      | None ↦ λ e. one i (λ r held. held)
+      | None ↦ λ e. one i (inl refl) (λ r held. held)
       | Some k ↦ λ e.
-          rest _ _ (one (item_in (part_to (goes_down i.request) (span_of i.request) k) i) (λ r held.
+          rest _ _ (one (item_in (part_to (goes_down i.request) (span_of i.request) k) i) (inr (part_to (goes_down i.request) (span_of i.request) k, refl)) (λ r held.
           short-held r i (part_to (goes_down i.request) (span_of i.request) k) (part-lies (goes_down i.request) (span_of i.request) k (taken-in i.request (at_of h i.seq.0) cells n k e)) held))
     ] refl
