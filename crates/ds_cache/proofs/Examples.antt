@@ -5,7 +5,7 @@ use Rattle.ds_desc.specs.declared.desc.Info.{Info}
 use Rattle.ds_cache.specs.declared.inserted.Inserted.TheVariants.{Older, Renewed, Added, Spent}
 use Rattle.ds_desc.specs.Descs.{overlap}
 use Rattle.ds_base.proofs.SmallFacts.{none_some, some_same}
-use Rattle.ds_cache.specs.Entries.{Entry, Cache, cache, found, fronted, without, NoOverlap, IsSound, IsIndex}
+use Rattle.ds_cache.specs.Entries.{Entry, Cache, cache, found, to_front, without, NoOverlap, IsSound, IsIndex}
 use Rattle.ds_cache.specs.Insert.{put_in, with_lease, leased, is_later_than, PutFrom}
 use Rattle.ds_cache.specs.Uses.{Fall, used_later}
 use Rattle.ds_cache.proofs.Added.{sound_empty}
@@ -84,7 +84,7 @@ nor_is_it_later = refl
 the_next_number_is : is_later_than (record { node = 2; number = 2 }) (Some (range 98 100 2 1)) ≡ true
 the_next_number_is = refl
 
-a_found_entry_goes_to_the_front : fronted (Some (1, range 97 99 1 1)) two.entries ≡ (1, range 97 99 1 1) ∷ (2, range 99 102 1 1) ∷ []
+a_found_entry_goes_to_the_front : to_front (Some (1, range 97 99 1 1)) two.entries ≡ (1, range 97 99 1 1) ∷ (2, range 99 102 1 1) ∷ []
 a_found_entry_goes_to_the_front = refl
 
 one_entry_is_taken_out : without 2 two.entries ≡ (1, range 97 99 1 1) ∷ []
@@ -125,7 +125,7 @@ numbers = (1, 4) ∷ (2, 7) ∷ []
 the_uses_fall : Fall 8 numbers two.entries
 the_uses_fall = (7, refl, omega arith, (4, refl, omega arith, tt))
 
-in_another_order_they_rise : Fall 8 numbers (fronted (Some (1, range 97 99 1 1)) two.entries) → ⊥
+in_another_order_they_rise : Fall 8 numbers (to_front (Some (1, range 97 99 1 1)) two.entries) → ⊥
 in_another_order_they_rise h =
     let u : 4 ≡ h.0 = some_same 4 h.0 h.1 in
     let v : 7 ≡ h.3.0 = some_same 7 h.3.0 h.3.1 in

@@ -7,7 +7,7 @@ use Rattle.std.proofs.lemmas.Map.{lookup-remove_entry}
 use Rattle.std.proofs.lemmas.Map.Views.{exact_unsigned_eq}
 use Rattle.ds_base.proofs.SmallFacts.{some_none, some_same}
 use Rattle.ds_desc.specs.declared.desc.Info.{Info}
-use Rattle.ds_cache.specs.Entries.{Entry, at_serial, without, fronted}
+use Rattle.ds_cache.specs.Entries.{Entry, at_serial, without, to_front}
 
 pub is_false : (b : Bool) → (b ≡ true → ⊥) → b ≡ false
 is_false true h = absurd (h refl)
@@ -105,7 +105,7 @@ length_without s (e ∷ es) =
 
 -- ---- an entry brought to the front
 
-pub at_front : (s q : ℕ) (i : Info) (es : List Entry) → IsDistinct nat_eq (keys_of es) → at_serial s es ≡ Some i → at_serial q (fronted (Some (s, i)) es) ≡ at_serial q es
+pub at_front : (s q : ℕ) (i : Info) (es : List Entry) → IsDistinct nat_eq (keys_of es) → at_serial s es ≡ Some i → at_serial q (to_front (Some (s, i)) es) ≡ at_serial q es
 at_front s q i es d h =
     (elim (nat_eq q s) as (λ t. nat_eq q s ≡ t → at_serial q ((s, i) ∷ without s es) ≡ at_serial q es) [
       | true ↦ λ t. rw t (sym (ap (λ k. at_serial k es) (exact_unsigned_eq q s t) ∙ h))
@@ -128,10 +128,10 @@ pub distinct_more : (e : Entry) (es : List Entry) → at_serial e.0 es ≡ None 
 unfolding IsDistinct
 distinct_more e es h d = (all_by e.0 es h, d)
 
-pub distinct_front : (s : ℕ) (i : Info) (es : List Entry) → IsDistinct nat_eq (keys_of es) → IsDistinct nat_eq (keys_of (fronted (Some (s, i)) es))
+pub distinct_front : (s : ℕ) (i : Info) (es : List Entry) → IsDistinct nat_eq (keys_of es) → IsDistinct nat_eq (keys_of (to_front (Some (s, i)) es))
 distinct_front s i es d = distinct_more (s, i) (without s es) (none_without s es d) (distinct_without s es d)
 
-pub length_front : (s : ℕ) (i : Info) (es : List Entry) → at_serial s es ≡ Some i → length (fronted (Some (s, i)) es) ≡ length es
+pub length_front : (s : ℕ) (i : Info) (es : List Entry) → at_serial s es ≡ Some i → length (to_front (Some (s, i)) es) ≡ length es
 length_front s i [] h = absurd (some_none i (sym h))
 length_front s i (e ∷ es) h =
     (elim (nat_eq s e.0) as (λ t. nat_eq s e.0 ≡ t → length ((s, i) ∷ without s (e ∷ es)) ≡ length (e ∷ es)) [

@@ -19,7 +19,7 @@ use Rattle.ds_base.proofs.SmallFacts.{and_both, and_first, and_second, some_none
 use Rattle.ds_desc.specs.Contains.{contains}
 use Rattle.ds_desc.specs.declared.desc.Info.{Info}
 use Rattle.ds_desc.specs.Descs.{overlap}
-use Rattle.ds_cache.specs.Entries.{Entry, Cache, cache, found, at_serial, without, fronted, IsSound, IsIndex, Unindexed}
+use Rattle.ds_cache.specs.Entries.{Entry, Cache, cache, found, at_serial, without, to_front, IsSound, IsIndex, Unindexed}
 use Rattle.ds_cache.specs.Nearest.{before, NoneBefore, IsLastBefore}
 use Rattle.ds_cache.proofs.Serials.{entry_at, find_none, find_only, at_without, distinct_without, length_without, at_front, distinct_front, length_front}
 
@@ -159,27 +159,27 @@ missed_last d k es n g m s i h ix l there c = find_none (λ e. contains d k e.1.
     ]) refl)
 
 -- the entry at the front
-pub sound_front : (s : ℕ) (i : Info) (es : List Entry) (n g : ℕ) → IsSound (cache es n g) → at_serial s es ≡ Some i → IsSound (cache (fronted (Some (s, i)) es) n g)
+pub sound_front : (s : ℕ) (i : Info) (es : List Entry) (n g : ℕ) → IsSound (cache es n g) → at_serial s es ≡ Some i → IsSound (cache (to_front (Some (s, i)) es) n g)
 sound_front s i es n g h there =
     let l = length_front s i es there in
     let f = h.fits in
-    sound_less es (fronted (Some (s, i)) es) n g h (λ q j p. sym (at_front s q i es h.distinct there) ∙ p) (distinct_front s i es h.distinct) (omega (arith, l, f))
+    sound_less es (to_front (Some (s, i)) es) n g h (λ q j p. sym (at_front s q i es h.distinct there) ∙ p) (distinct_front s i es h.distinct) (omega (arith, l, f))
 
 -- ---- what `find` says, of the cache as it was seen
 
 pub token_none : (d : Dir) (k : List ℕ) (w x : Cache) → w ≡ x → found d k w.entries ≡ None → None ≡ option_map (λ e. e.0) (found d k x.entries)
 token_none d k w x same f = let g : found d k x.entries ≡ None = ap (λ c. found d k c.entries) (sym same) ∙ f in rw g refl
 
-pub cache_none : (d : Dir) (k : List ℕ) (w x : Cache) → w ≡ x → found d k w.entries ≡ None → x ≡ cache (fronted (found d k x.entries) x.entries) x.capacity x.given
+pub cache_none : (d : Dir) (k : List ℕ) (w x : Cache) → w ≡ x → found d k w.entries ≡ None → x ≡ cache (to_front (found d k x.entries) x.entries) x.capacity x.given
 cache_none d k w x same f = let g : found d k x.entries ≡ None = ap (λ c. found d k c.entries) (sym same) ∙ f in rw g refl
 
 pub token_some : (d : Dir) (k : List ℕ) (w x : Cache) (s : ℕ) (i : Info) → w ≡ x → found d k w.entries ≡ Some (s, i) → Some s ≡ option_map (λ e. e.0) (found d k x.entries)
 token_some d k w x s i same f = let g : found d k x.entries ≡ Some (s, i) = ap (λ c. found d k c.entries) (sym same) ∙ f in rw g refl
 
-pub cache_some : (d : Dir) (k : List ℕ) (w x : Cache) (s : ℕ) (i : Info) (fs : List Entry) → w ≡ x → found d k w.entries ≡ Some (s, i) → fs ≡ fronted (Some (s, i)) w.entries → cache fs w.capacity w.given ≡ cache (fronted (found d k x.entries) x.entries) x.capacity x.given
+pub cache_some : (d : Dir) (k : List ℕ) (w x : Cache) (s : ℕ) (i : Info) (fs : List Entry) → w ≡ x → found d k w.entries ≡ Some (s, i) → fs ≡ to_front (Some (s, i)) w.entries → cache fs w.capacity w.given ≡ cache (to_front (found d k x.entries) x.entries) x.capacity x.given
 cache_some d k w x s i fs same f front =
-    subst (λ c. cache fs w.capacity w.given ≡ cache (fronted (found d k c.entries) c.entries) c.capacity c.given) same (rw f (ap (λ l. cache l w.capacity w.given) front))
+    subst (λ c. cache fs w.capacity w.given ≡ cache (to_front (found d k c.entries) c.entries) c.capacity c.given) same (rw f (ap (λ l. cache l w.capacity w.given) front))
 
 -- what `promote` leaves
-pub promoted_front : (s : ℕ) (i : Info) (es : List Entry) → at_serial s es ≡ Some i → promoted (nat_eq s) es ≡ fronted (Some (s, i)) es
+pub promoted_front : (s : ℕ) (i : Info) (es : List Entry) → at_serial s es ≡ Some i → promoted (nat_eq s) es ≡ to_front (Some (s, i)) es
 promoted_front s i es h = rw (entry_at s i es h) refl

@@ -39,9 +39,9 @@ abbrev pub without : ℕ → List Entry → List Entry
 without s es = remove_entry (nat_eq s) es
 
 -- the entry goes to the front
-abbrev pub fronted : Option Entry → List Entry → List Entry
-fronted None es = es
-fronted (Some e) es = e ∷ without e.0 es
+abbrev pub to_front : Option Entry → List Entry → List Entry
+to_front None es = es
+to_front (Some e) es = e ∷ without e.0 es
 
 -- ---- what every cache keeps
 

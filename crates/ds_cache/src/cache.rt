@@ -1,7 +1,7 @@
 //! The cache.
 ghost use Rattle.std.specs.Prelude.{◌≡◌, ◌≤◌, ◌<◌, ◌+◌, ◌-◌, ◌^◌, [], ◌∷◌, take, OnOk, OnErr, IfOk, option_map, option_copied, is_some};
 ghost use Rattle.lru.specs.LruCache.{lru_cache};
-ghost use Rattle.ds_cache.specs.Entries.{Cache, cache, found, fronted, at_serial, without, IsIndex, IsSound};
+ghost use Rattle.ds_cache.specs.Entries.{Cache, cache, found, to_front, at_serial, without, IsIndex, IsSound};
 ghost use Rattle.ds_cache.specs.declared.inserted.Inserted.TheVariants.{Added};
 ghost use Rattle.ds_cache.specs.Insert.{clear_of, put_in, put_all, PutFrom, leased, is_later_than};
 
@@ -86,7 +86,7 @@ impl RangeCache {
     /// The entry that contains the key in this direction, which comes to the front.
     pub fn find(&mut self, key: &Key, dir: Dir) -> Option<Token>
         ensures token { result ≡ option_map (λ e. e.0) (found dir key.now self.old.entries) }
-        ensures cache { self.new ≡ cache (fronted (found dir key.now self.old.entries) self.old.entries) self.old.capacity self.old.given }
+        ensures cache { self.new ≡ cache (to_front (found dir key.now self.old.entries) self.old.entries) self.old.capacity self.old.given }
     {
         let serial = match last_before(&self.index, key, dir) {
             Some(serial) => serial,

@@ -1,4 +1,6 @@
 pub mod Meaning
-pub mod Seeking
 pub mod Measuring
+pub mod Parting
+pub mod Seeking
+pub mod Sharing
 pub mod Whole

@@ -1,7 +1,7 @@
 -- Where nothing reaches past the span on the far side, all is cut and nothing is left.
 use Rattle.std.proofs.Common.{◌≡◌, ℕ, true, false, cond, List, [], ◌∷◌, ◌++◌, refl, sym, ap, ◌∙◌, subst, Option}
 use Rattle.ds_base.proofs.KeyOrder.{below-after, key_le-antisymm}
-use Rattle.ds_base.proofs.OrderedFacts.{le_of_lt, le_of_not_lt, le_trans, lt_le_trans, not_lt_of_le}
+use Rattle.ds_base.proofs.OrderedFacts.{le_of_lt, le_trans, lt_le_trans, not_lt_of_le}
 use Rattle.ds_base.proofs.SmallFacts.{and_first, and_second}
 use Rattle.ds_base.specs.Order.{Extent, key_lt, key_le, after, max_key, min_key}
 use Rattle.ds_base.specs.declared.value.Dir.{Dir}
@@ -27,21 +27,21 @@ use Rattle.ds_cut.proofs.Seeking.{greater, next-le}
 pub below_is_within : (k e : List ℕ) → key_lt k e ≡ key_le (after k) e
 below_is_within k e = same_test (key_lt k e) (key_le (after k) e) (next-le k e) (lt_le_trans k (after k) e (below-after k))
 
-lesser : (a b : List ℕ) → key_le b a ≡ true → b ≡ min_key a b
+pub lesser : (a b : List ℕ) → key_le b a ≡ true → b ≡ min_key a b
 lesser a b h =
     elim (key_lt b a) as (λ t. key_lt b a ≡ t → b ≡ cond t b a) [
       | true ↦ λ e. refl
       | false ↦ λ e. key_le-antisymm b a h e
     ] refl
 
-min_low : (a b : List ℕ) → key_le (min_key a b) a ≡ true
+pub min_low : (a b : List ℕ) → key_le (min_key a b) a ≡ true
 min_low a b =
     elim (key_lt b a) as (λ t. key_lt b a ≡ t → key_le (cond t b a) a ≡ true) [
       | true ↦ λ e. le_of_lt b a e
       | false ↦ λ e. le_itself a
     ] refl
 
-max_high : (a b : List ℕ) → key_le a (max_key a b) ≡ true
+pub max_high : (a b : List ℕ) → key_le a (max_key a b) ≡ true
 max_high a b =
     elim (key_lt a b) as (λ t. key_lt a b ≡ t → key_le a (cond t b a) ≡ true) [
       | true ↦ λ e. le_of_lt a b e
@@ -54,27 +54,27 @@ some_of : (r : Reach) → is_proper r ≡ true → key_lt (extent_of r).start (e
 some_of (At k) h = below-after k
 some_of (Over s e) h = h
 
-abbrev cut_so : Item → List ℕ → List ℕ → List Item
+abbrev pub cut_so : Item → List ℕ → List ℕ → List Item
 cut_so i s e = cond (key_lt s e) (record i { request = cut_to s e i.request } ∷ []) []
 
-whole : (i : Item) → has_proper_span i.request ≡ true → cut_so i (span_of i.request).start (span_of i.request).end ≡ i ∷ []
+pub whole : (i : Item) → has_proper_span i.request ≡ true → cut_so i (span_of i.request).start (span_of i.request).end ≡ i ∷ []
 whole i proper =
     ap (λ t. cond t (record i { request = cut_to (span_of i.request).start (span_of i.request).end i.request } ∷ []) []) (some_of (reach_of i.request) proper)
     ∙ ap (λ r. record i { request = r } ∷ []) (sym (uncut i.request))
 
-cut_whole : (span : Extent) (i : Item) → has_proper_span i.request ≡ true → key_le span.start (span_of i.request).start ≡ true → key_le (span_of i.request).end span.end ≡ true → cut_item (within span) i ≡ i ∷ []
+pub cut_whole : (span : Extent) (i : Item) → has_proper_span i.request ≡ true → key_le span.start (span_of i.request).start ≡ true → key_le (span_of i.request).end span.end ≡ true → cut_item (within span) i ≡ i ∷ []
 cut_whole span i proper low high =
     ap (λ s. cut_so i s (min_key span.end (span_of i.request).end)) (sym (greater span.start (span_of i.request).start low))
     ∙ ap (cut_so i (span_of i.request).start) (sym (lesser span.end (span_of i.request).end high))
     ∙ whole i proper
 
-after_none : (span : Extent) (i : Item) → key_le (span_of i.request).end span.end ≡ true → cut_item (from span.end) i ≡ []
+pub after_none : (span : Extent) (i : Item) → key_le (span_of i.request).end span.end ≡ true → cut_item (from span.end) i ≡ []
 after_none span i high =
     let x = span_of i.request in
     let m = max_key span.end x.start in
     ap (λ t. cond t (record i { request = cut_to m x.end i.request } ∷ []) []) (not_lt_of_le x.end m (le_trans x.end span.end m high (max_high span.end x.start)))
 
-before_none : (span : Extent) (i : Item) → key_le span.start (span_of i.request).start ≡ true → cut_item (up_to span.start) i ≡ []
+pub before_none : (span : Extent) (i : Item) → key_le span.start (span_of i.request).start ≡ true → cut_item (up_to span.start) i ≡ []
 before_none span i low =
     let x = span_of i.request in
     let m = min_key span.start x.end in

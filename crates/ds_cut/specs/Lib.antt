@@ -1,3 +1,4 @@
+pub mod Fates
 pub mod Pieces
 pub mod Seek
 pub mod Within

@@ -1,5 +1,5 @@
 -- Items that don't reach past a span on the far side.
-use Rattle.std.specs.Prelude.{◌≡◌, ℕ, Bool, true, false, List, [], ◌∷◌, refl}
+use Rattle.std.specs.Prelude.{◌≡◌, Bool, true, false, List, [], ◌∷◌, refl}
 use Rattle.std.specs.List.{list_all}
 use Rattle.ds_base.specs.Order.{Extent, key_le}
 use Rattle.ds_base.specs.declared.value.Dir.{Dir}

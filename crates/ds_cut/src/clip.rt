@@ -1,13 +1,13 @@
-//! Items cut to a span, and what is left of them beyond it.
-ghost use Rattle.std.specs.Prelude.{◌≡◌, ◌∷◌, ◌++◌, true, IfOk, OnOk};
+//! An item cut between two bounds.
+ghost use Rattle.std.specs.Prelude.{◌≡◌, ◌∷◌, true, IfOk};
 ghost use Rattle.std.specs.Option.{option_copied, option_to_list};
 ghost use Rattle.ds_base.specs.Order.{key_lt, key_le};
 ghost use Rattle.ds_kind.specs.Request.{cut_to, span_of};
-ghost use Rattle.ds_cover.specs.Cuts.{cut_by, cut_item, cut_items, rest_items};
+ghost use Rattle.ds_cover.specs.Cuts.{cut_item};
 ghost use Rattle.ds_cover.specs.Clips.{clip, not_below, not_above, passes};
 
-use ds_base::{Copies, Dir, Key, Span};
-use ds_kind::{Bounds, Item, Items};
+use ds_base::{Copies, Key};
+use ds_kind::{Bounds, Item};
 use std::alloc::{AllocError, Global};
 
 /// The greater of a key and a bound, if there is one.
@@ -57,7 +57,7 @@ fn item_cut(alloc: Global, item: &Item, start: &Key, end: &Key) -> Result<Item, 
 }
 
 /// The item between the bounds; `None` where nothing of it is left.
-fn one_cut(
+pub(crate) fn one_cut(
     alloc: Global,
     item: &Item,
     low: Option<&Key>,
@@ -82,48 +82,5 @@ fn one_cut(
                 Ok(None)
             }
         }
-    }
-}
-
-/// Adds the item, if there is one.
-fn put(alloc: Global, kept: &mut Items, item: Option<Item>) -> Result<(), AllocError>
-    ensures { OnOk result (kept.new ≡ kept.old ++ option_to_list item) }
-{
-    match item {
-        Some(item) => kept.push(alloc, item),
-        None => Ok(()),
-    }
-}
-
-/// The items between the bounds.
-fn clipped(
-    alloc: Global,
-    items: &Items,
-    low: Option<&Key>,
-    high: Option<&Key>,
-) -> Result<Items, AllocError>
-    ensures { IfOk result (λ kept. kept ≡ cut_by (clip (option_copied low.entry) (option_copied high.entry)) items.now) }
-{
-    let mut kept = Items::new(alloc);
-    'items: for item in items.as_slice() {
-        put(alloc, &mut kept, one_cut(alloc, item, low, high)?)?;
-    }
-    Ok(kept)
-}
-
-/// The items cut to the span.
-pub fn cut_to_span(alloc: Global, items: &Items, span: &Span) -> Result<Items, AllocError>
-    ensures { IfOk result (λ cut. cut ≡ cut_items span.now items.now) }
-{
-    clipped(alloc, items, Some(&span.start), Some(&span.end))
-}
-
-/// What is left of the items on the far side of the span.
-pub fn rest_of(alloc: Global, items: &Items, dir: Dir, span: &Span) -> Result<Items, AllocError>
-    ensures { IfOk result (λ rest. rest ≡ rest_items dir span.now items.now) }
-{
-    match dir {
-        Dir::Forward => clipped(alloc, items, Some(&span.end), None),
-        Dir::Reverse => clipped(alloc, items, None, Some(&span.start)),
     }
 }

@@ -7,8 +7,9 @@ ghost use Rattle.ds_cover.specs.Measures.{AllSpans};
 ghost use Rattle.ds_cut.specs.Pieces.{cut_piece, rest_part, piece_with, ContainsSeek, CutsOff};
 ghost use Rattle.ds_cut.specs.Within.{none_past};
 
-use crate::clip::{cut_to_span, rest_of};
-use crate::seek::seek_of;
+use crate::fate::fates_of;
+use crate::seek::{seek_left, seek_of};
+use crate::share::share;
 use crate::spans::spans_known;
 use crate::within::none_past;
 use ds_base::{Copies, Dir, Key, Span};
@@ -108,8 +109,8 @@ impl Cutter {
         piece_of(*head, desc.id, self.dir, all)
     }
 
-    // Cuts off what lies in the range, where something may be left: what is cut and what is left is
-    // copied, so that want of memory leaves all as it was.
+    // Cuts off what lies in the range, where something may be left. All memory is taken first, so that
+    // want of it leaves all as it was.
     fn cut_off(
         &mut self,
         alloc: Global,
@@ -122,18 +123,21 @@ impl Cutter {
         ensures meaning { IfOk result (λ piece. CutsOff desc.now.span self.old.items piece self.new.items) }
         ensures error { OnErr result (self.new ≡ self.old) }
     {
-        let cut = cut_to_span(alloc, &self.rest, &desc.span)?;
-        let rest = rest_of(alloc, &self.rest, self.dir, &desc.span)?;
-        let seek = seek_of(alloc, self.dir, &rest)?;
-        self.rest = rest;
+        let fates = fates_of(alloc, self.dir, &desc.span, self.rest.as_slice())?;
+        let seek = seek_left(alloc, self.dir, self.rest.as_slice(), fates.as_slice())?;
+        let mut cut = Vec::with_capacity(alloc, self.rest.len())?;
+        let mut left = Vec::with_capacity(alloc, self.rest.len())?;
+        let items = mem::replace(&mut self.rest, Items::new(alloc));
+        share(items.into_vec(), fates, &mut cut, &mut left);
+        self.rest = Items::from_vec(left);
         self.seek = seek;
-        Ok(piece_of(*head, desc.id, self.dir, cut))
+        Ok(piece_of(*head, desc.id, self.dir, Items::from_vec(cut)))
     }
 
     /// Cuts off what lies in the range: the requests cut to its span, in order, with their positions
-    /// and numbers. `None` exactly where no key of what is left lies in the span. Where nothing
-    /// reaches past the range, all of it is moved, and nothing copied. Want of memory leaves all as
-    /// it was.
+    /// and numbers. `None` exactly where no key of what is left lies in the span. What lies in the
+    /// range or past it is moved; only a request that reaches over an edge of the range is copied.
+    /// Want of memory leaves all as it was.
     pub fn next(
         &mut self,
         alloc: Global,

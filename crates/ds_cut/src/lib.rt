@@ -8,7 +8,9 @@
 
 mod clip;
 mod cutter;
+mod fate;
 mod seek;
+mod share;
 mod spans;
 mod within;
 

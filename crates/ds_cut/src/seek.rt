@@ -1,5 +1,6 @@
 //! The key at which what is left of a part is sought.
-ghost use Rattle.std.specs.Prelude.{◌≡◌, true, None, IfOk, IfSome};
+ghost use Rattle.std.specs.Prelude.{◌≡◌, true, None, IfOk, IfSome, length};
+ghost use Rattle.ds_cut.specs.Fates.{all_left};
 ghost use Rattle.ds_kind.specs.Asks.{is_proper};
 ghost use Rattle.ds_kind.specs.Reach.{extent_of, reach_of_bounds};
 ghost use Rattle.ds_kind.specs.Request.{reach_of};
@@ -7,6 +8,8 @@ ghost use Rattle.ds_cover.specs.Cuts.{seek_key};
 ghost use Rattle.ds_cover.specs.Items.{AreProper};
 ghost use Rattle.ds_cut.specs.Seek.{IsMetFirst, StaysProper, comes_first, ends_above, first_over, first_with, near_end, near_end_of};
 
+use crate::fate::Fate;
+use crate::share::nearest_left;
 use ds_base::{Copies, Dir, Key};
 use ds_kind::{Bounds, Item, Items};
 use std::alloc::{AllocError, Global};
@@ -57,7 +60,7 @@ fn first_of<'a>(dir: Dir, one: Bounds<'a>, other: Bounds<'a>) -> Bounds<'a>
 }
 
 /// What is met first, with one item more.
-fn first_with<'a>(dir: Dir, so_far: Option<Bounds<'a>>, item: &'a Item) -> Bounds<'a>
+pub(crate) fn first_with<'a>(dir: Dir, so_far: Option<Bounds<'a>>, item: &'a Item) -> Bounds<'a>
     requires proper { is_proper (reach_of item.now.request) ≡ true }
     requires so_far { IfSome so_far (λ b. is_proper (reach_of_bounds b) ≡ true) }
     ensures near { near_end dir (reach_of_bounds result) ≡ first_with dir (near_end_of dir so_far.entry) (reach_of item.now.request) }
@@ -117,5 +120,21 @@ pub fn seek_of(alloc: Global, dir: Dir, items: &Items) -> Result<Option<Key>, Al
     ensures { IfOk result (λ k. k ≡ seek_key dir items.now) }
 {
     let key = key_of(alloc, dir, nearest(dir, items.as_slice()))?;
+    Ok(key)
+}
+
+/// The key at which what is left of items with these fates is sought.
+#[tactic(auto, using(crate::proofs::Seeking::over_seek))]
+pub fn seek_left(
+    alloc: Global,
+    dir: Dir,
+    items: &[Item],
+    fates: &[Fate],
+) -> Result<Option<Key>, AllocError>
+    requires same { length fates.now ≡ length items.now }
+    requires proper { AreProper (all_left fates.now items.now) }
+    ensures { IfOk result (λ k. k ≡ seek_key dir (all_left fates.now items.now)) }
+{
+    let key = key_of(alloc, dir, nearest_left(dir, items, fates))?;
     Ok(key)
 }

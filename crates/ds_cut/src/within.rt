@@ -9,14 +9,14 @@ use ds_kind::{Bounds, Item};
 
 /// Whether a point ends up to a key, found without making the key after it.
 #[tactic(auto, using(crate::proofs::Whole::below_is_within))]
-fn ends_up_to(key: &Key, end: &Key) -> bool
+pub(crate) fn ends_up_to(key: &Key, end: &Key) -> bool
     ensures { result ≡ key_le (after key.now) end.now }
 {
     key < end
 }
 
 /// Whether a reach ends in the span, going in this direction.
-fn stays_within(dir: Dir, span: &Span, bounds: Bounds<'_>) -> bool
+pub(crate) fn stays_within(dir: Dir, span: &Span, bounds: Bounds<'_>) -> bool
     ensures { result ≡ stays_within dir span.now (extent_of (reach_of_bounds bounds.entry)) }
 {
     match (dir, bounds) {

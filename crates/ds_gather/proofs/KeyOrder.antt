@@ -5,11 +5,10 @@ use Rattle.ds_base.specs.Order.{key_lt, key_le}
 use Rattle.ds_base.specs.Ordered.{AllOver, AllFrom, AllBelow, Ascends}
 use Rattle.ds_base.proofs.OrderedFacts.{le_of_lt, le_trans, lt_le_trans, over-append}
 use Rattle.ds_kind.specs.Bodies.{put_in_order, in_order, those_at}
-use Rattle.ds_kind.specs.declared.reply.Body.{Body}
 use Rattle.ds_kind.specs.declared.reply.Body.TheVariants.{Rows, Gone}
 use Rattle.ds_kind.specs.declared.reply.Row.{Row}
 use Rattle.ds_cover.specs.Chains.{Chain}
-use Rattle.ds_gather.specs.Gathered.{pos_of, start_of, rows_in, keys_in, all_rows, all_keys, in_direction, joined, arrived, reply_of}
+use Rattle.ds_gather.specs.Gathered.{pos_of, start_of, rows_in, keys_in, in_direction, joined, reply_of}
 use Rattle.ds_gather.specs.Laws.{row_key, key_itself, span_to, InDirection, EachLies}
 use Rattle.ds_gather.specs.declared.arrival.Arrival.{Arrival}
 use Rattle.ds_gather.specs.declared.arrival.Wanted.{Wanted}

@@ -1,12 +1,12 @@
 -- What is sorted by start and number is in key order, and what starts at one key stands as it came.
-use Rattle.std.proofs.Common.{◌≡◌, ℕ, zero, suc, ◌+◌, ◌<◌, ◌≤◌, Bool, true, false, cond, List, [], ◌∷◌, ◌++◌, filter, map, length, take, get_or, refl, sym, ap, ◌∙◌, subst, arith, Ordering, nat_lt, ◌==◌, eq-eqb, ne_eqb, eqb-true}
+use Rattle.std.proofs.Common.{◌≡◌, ℕ, zero, suc, ◌+◌, ◌<◌, ◌≤◌, Bool, true, false, cond, List, [], ◌∷◌, ◌++◌, filter, length, take, get_or, refl, sym, ap, ◌∙◌, subst, arith, Ordering, nat_lt, ◌==◌, eq-eqb, ne_eqb, eqb-true}
 use Rattle.std.specs.List.Sorted.{IsPermutation, IsSortedBy}
 use Rattle.std.specs.Ordering.{is_lt, nat_cmp, ordering_then}
 use Rattle.std.specs.declared.cmp.Ordering.TheVariants.{Less, Equal, Greater}
 use Rattle.std.proofs.lemmas.List.Sorted.{IsPermutation-sym}
 use Rattle.std.proofs.lemmas.Bool.Decides.{nat_tests}
 use Rattle.ds_base.specs.Order.{key_cmp, key_lt, key_le}
-use Rattle.ds_base.specs.Ordered.{key_eq, AllFrom, Ascends}
+use Rattle.ds_base.specs.Ordered.{key_eq, AllFrom}
 use Rattle.ds_base.proofs.OrderedFacts.{le_of_not_lt, le_trans, not_lt_of_le, eq_same}
 use Rattle.ds_base.proofs.SmallFacts.{lt_of, ge_of}
 use Rattle.ds_kind.specs.Bodies.{put_in_order, in_order}

@@ -6,7 +6,7 @@ use Rattle.ds_base.proofs.SmallFacts.{none_some, some_none, some_same}
 use Rattle.ds_base.specs.declared.value.Dir.{Dir}
 use Rattle.ds_desc.specs.Contains.{contains}
 use Rattle.ds_desc.specs.declared.desc.Info.{Info}
-use Rattle.ds_cache.specs.Entries.{Entry, Cache, cache, found, fronted, at_serial}
+use Rattle.ds_cache.specs.Entries.{Entry, Cache, cache, found, to_front, at_serial}
 use Rattle.ds_iter.specs.Seek.{Lookups, SoughtBy, ContainsKey}
 use Rattle.ds_iter.specs.declared.sought.Sought.{Sought}
 use Rattle.ds_iter.specs.declared.sought.Sought.TheVariants.{Found, Lost}
@@ -24,16 +24,16 @@ passes test (y ∷ ys) x h =
 pub record Hit (d : Dir) (k : List ℕ) (old new : Cache) (r : Result Sought AllocError) : Type 0 where
   pub entry : Entry
   pub here : found d k old.entries ≡ Some entry
-  pub front : new ≡ cache (fronted (Some entry) old.entries) old.capacity old.given
+  pub front : new ≡ cache (to_front (Some entry) old.entries) old.capacity old.given
   pub answer : IfOk r (λ s. s ≡ Found entry.1 entry.0)
 
-pub hit : (d : Dir) (k : List ℕ) (old new : Cache) (t : ℕ) (r : Result Sought AllocError) → Some t ≡ option_map (λ e. e.0) (found d k old.entries) → new ≡ cache (fronted (found d k old.entries) old.entries) old.capacity old.given → ((i : Info) → at_serial t new.entries ≡ Some i → IfOk r (λ s. s ≡ Found i t)) → Hit d k old new r
+pub hit : (d : Dir) (k : List ℕ) (old new : Cache) (t : ℕ) (r : Result Sought AllocError) → Some t ≡ option_map (λ e. e.0) (found d k old.entries) → new ≡ cache (to_front (found d k old.entries) old.entries) old.capacity old.given → ((i : Info) → at_serial t new.entries ≡ Some i → IfOk r (λ s. s ≡ Found i t)) → Hit d k old new r
 hit d k old new t r token front copied =
     (elim (found d k old.entries) as (λ o. found d k old.entries ≡ o → Hit d k old new r) [
       | None ↦ λ u. some_none t (token ∙ ap (option_map (λ e. e.0)) u)
       | Some e ↦ λ u.
           let same : t ≡ e.0 = some_same t e.0 (token ∙ ap (option_map (λ x. x.0)) u) in
-          let first : new ≡ cache (fronted (Some e) old.entries) old.capacity old.given = front ∙ ap (λ o. cache (fronted o old.entries) old.capacity old.given) u in
+          let first : new ≡ cache (to_front (Some e) old.entries) old.capacity old.given = front ∙ ap (λ o. cache (to_front o old.entries) old.capacity old.given) u in
           let there : at_serial e.0 new.entries ≡ Some e.1 = ap (λ c. at_serial e.0 c.entries) first ∙ rw (nat_eq_equiv.refl e.0) refl in
           record {
             entry = e;

@@ -6,7 +6,7 @@ use Rattle.ds_desc.specs.Contains.{contains, FirstContains}
 use Rattle.ds_desc.specs.declared.desc.Info.{Info}
 use Rattle.ds_desc.specs.declared.meta.Looked.{Looked}
 use Rattle.ds_desc.specs.declared.meta.Looked.TheVariants as answers
-use Rattle.ds_cache.specs.Entries.{Entry, Cache, cache, fronted}
+use Rattle.ds_cache.specs.Entries.{Entry, Cache, cache, to_front}
 use Rattle.ds_cache.specs.Insert.{put_in, put_all, PutFrom}
 use Rattle.ds_iter.specs.declared.sought.Sought.{Sought}
 use Rattle.ds_iter.specs.declared.sought.Sought.TheVariants.{Found, Lost}
@@ -27,7 +27,7 @@ Lookups M = M → M → List ℕ → Dir → Result Looked AllocError → Type 0
 
 -- found in the cache: no lookup is made, and the entry comes to the front
 abbrev pub FoundWithout : {M : Type 0} → Entry → Cache → M → Sought → Cache → M → Type 0
-FoundWithout e old before s new after = (s ≡ Found e.1 e.0) × (new ≡ cache (fronted (Some e) old.entries) old.capacity old.given) × (after ≡ before)
+FoundWithout e old before s new after = (s ≡ Found e.1 e.0) × (new ≡ cache (to_front (Some e) old.entries) old.capacity old.given) × (after ≡ before)
 
 -- found by one lookup of this key, whose first row contains it; so it is lost exactly where the lookup's answer was
 abbrev pub FoundBy : {M : Type 0} → Lookups M → Dir → List ℕ → Cache → M → Sought → Cache → M → Type 0
@@ -40,7 +40,7 @@ SoughtBy looked d k None old before s new after = FoundBy looked d k old before 
 
 -- how far it came before memory was wanting: the lookup itself wanted it, or some of the last rows are inserted
 abbrev pub BegunBy : {M : Type 0} → Lookups M → Dir → List ℕ → Option Entry → Cache → M → Cache → M → Type 0
-BegunBy looked d k (Some e) old before new after = (new ≡ cache (fronted (Some e) old.entries) old.capacity old.given) × (after ≡ before)
+BegunBy looked d k (Some e) old before new after = (new ≡ cache (to_front (Some e) old.entries) old.capacity old.given) × (after ≡ before)
 BegunBy looked d k None old before new after = ((e : AllocError) × looked before after k d (Err e) × (new ≡ old)) ⊎ ((is : List Info) × looked before after k d (Ok (answers.Rows is)) × FirstContains d k (answers.Rows is) × PutFrom is old new)
 
 -- what is found contains the key

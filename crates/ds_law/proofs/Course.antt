@@ -25,22 +25,22 @@ use Rattle.ds_rule.specs.declared.answer.Answer.TheVariants.{Done, Failed, Refus
 use Rattle.ds_rule.specs.declared.journal.JournalStep.TheVariants.{Look, Send}
 use Rattle.ds_rule.specs.declared.event.Event.{Event}
 use Rattle.ds_rule.specs.Asking.{Asking, Gives, at_of, txn_of}
-use Rattle.ds_rule.specs.Clauses.{IsAbove}
 use Rattle.ds_rule.specs.Deliver.{holds_item, deliver_world, status_stops}
-use Rattle.ds_rule.specs.Journal.{Happening, Moved, Did, Does, Runs, Accepted, accepted, pairs}
-use Rattle.ds_rule.specs.Moves.{moved}
+use Rattle.ds_rule.specs.Journal.{Happening, Moved, Did, Runs, Accepted, accepted, pairs}
+use Rattle.ds_rule.specs.Moves.{IsMove, moved}
 use Rattle.ds_rule.specs.Path.{IsHigh, IsOf}
 use Rattle.ds_rule.specs.Pieces.{Each, PieceOf}
 use Rattle.ds_rule.specs.Plain.{after_event, abort_txn, aborted_by, is_pending}
 use Rattle.ds_rule.specs.StandsFor.{StandsFor, IsIntentOf, IsAt, IsWho, Knows, open_stamp, IsBefore, after_made}
 use Rattle.ds_rule.specs.World.{World, Range, start_of, contents, cell_of, has_id}
 use Rattle.ds_rule.proofs.Puts.{put-at}
+use Rattle.ds_rule.proofs.Passing.{Told, told}
 use Rattle.ds_law.proofs.Reading.{read_bits, same-read, same-places, shown_by, seen-same, seen-settled}
 use Rattle.ds_rule.proofs.Routes.{range-between, contents-ascend}
 use Rattle.ds_law.proofs.Recorded.{Pends, pends}
 use Rattle.ds_rule.proofs.Service.{Service, service, held, takes}
 use Rattle.ds_law.proofs.Standing.{stands-moved}
-use Rattle.ds_law.proofs.Truth.{IsRead, IsTrue, reply_of, all-read, cuts-read, reads-stay, looks-stay}
+use Rattle.ds_law.proofs.Truth.{IsRead, IsTrue, Unmoved, reply_of, all-read, cuts-read, reads-stay, look-unmoved, looks-stay, unmoved}
 
 -- what the batch sees at each key of the one store, it sees of the other
 abbrev pub SeesSame : Head → Store → Store → Type 0
@@ -58,7 +58,7 @@ seen-either h n v true c d high same = seen-version h n v c high ∙ ap (seen (a
 seen-either h n v false c d high same = refl
 
 -- a move above the floor changes nothing that the batch sees
-sees-event : (h : Head) (floor : ℕ) (e : Event) (p : Store) → Ascends key_of p.cells → IsAbove floor e → h.at.0 ≤ floor → SeesSame h (after_event e p) p
+sees-event : (h : Head) (floor : ℕ) (e : Event) (p : Store) → Ascends key_of p.cells → IsMove floor e → h.at.0 ≤ floor → SeesSame h (after_event e p) p
 sees-event h floor (Event.Write k s v) p asc above low n q =
     let high : h.at.0 < s.0 = (let a : floor < s.0 = above.0 in omega (arith, a, low)) in
     ap (seen (at_of h n) n) (put-at k q (with_version (record { stamp = s; value = v })) p.cells asc)
@@ -133,8 +133,8 @@ item-true : (h : Head) (floor : ℕ) (w : World) (p first : Store) (r : Range) (
 item-true h floor w p first r f i way found fits read =
     ap (λ ps. body_of i.request (shown_by (seen (at_of h i.seq.0) i.seq.0) ps))
     (same-places (reach_of i.request) r.cells (contents w.ranges)
-    (range-between f [] w.ranges r (span_of i.request).start (span_of i.request).end way.stands.tiled found (and_first _ _ fits) (and_second (key_le (start_of r) (span_of i.request).start) _ fits)))
-    ∙ same-read i.request read (at_of h i.seq.0) (contents w.ranges) first.cells (contents-ascend [] w.ranges way.stands.tiled) way.rising
+    (range-between f [] w.ranges r (span_of i.request).start (span_of i.request).end way.stands.keeps.tiled found (and_first _ _ fits) (and_second (key_le (start_of r) (span_of i.request).start) _ fits)))
+    ∙ same-read i.request read (at_of h i.seq.0) (contents w.ranges) first.cells (contents-ascend [] w.ranges way.stands.keeps.tiled) way.rising
     (λ k. seen-by h p.txn i.seq.0 (cell_of w k) (content_at k p.cells) way.before (way.stands.intents k) (way.stands.same k) ∙ way.sees i.seq.0 k)
 
 items-true : (h : Head) (floor : ℕ) (w : World) (p first : Store) (r : Range) (f : Range → Bool) (items : List Item) → OnWay h floor w p first → find f w.ranges ≡ Some r → list_all (holds_item r) items ≡ true → Each IsRead items → Each (IsTrue h first.cells) (pairs h items (map (reply_of h r.cells) items))
@@ -240,7 +240,7 @@ pends-event (Event.LoseReply c) p n h = h
 pends-event (Event.Copy c) p n h = h
 pends-event (Event.Restart t) p n h = h
 
-way-moved : (h : Head) (floor : ℕ) (w : World) (p first : Store) (e : Event) → IsAbove floor e → OnWay h floor w p first → OnWay h floor (moved w e) (after_event e p) first
+way-moved : (h : Head) (floor : ℕ) (w : World) (p first : Store) (e : Event) → IsMove floor e → OnWay h floor w p first → OnWay h floor (moved w e) (after_event e p) first
 way-moved h floor w p first e above way = record {
   stands = stands-moved w p e floor above way.open_low way.stands;
   rising = way.rising;
@@ -253,9 +253,9 @@ way-moved h floor w p first e above way = record {
   open_low = open-event e p floor way.open_low;
 }
 
-way-stays : (h : Head) (floor : ℕ) (w v : World) (p first : Store) → v.ranges ≡ w.ranges → v.records ≡ w.records → OnWay h floor w p first → OnWay h floor v p first
-way-stays h floor w v p first ranges records way = record {
-  stands = looks-stay w p v ranges records way.stands;
+way-stays : (h : Head) (floor : ℕ) (w v : World) (p first : Store) → Unmoved w v → OnWay h floor w p first → OnWay h floor v p first
+way-stays h floor w v p first same way = record {
+  stands = looks-stay w p v same way.stands;
   rising = way.rising;
   sees = way.sees;
   before = way.before;
@@ -268,8 +268,7 @@ way-stays h floor w v p first ranges records way = record {
 
 way-delivered : (h : Head) (floor : ℕ) (w v : World) (p first : Store) (n : ℕ) (piece : Piece) → v ≡ deliver_world w n piece → Each IsRead piece.items → OnWay h floor w p first → OnWay h floor v p first
 way-delivered h floor w v p first n piece is read way =
-    let same : v ≡ w = is ∙ reads-stay w n piece read in
-    way-stays h floor w v p first (ap (λ z. z.ranges) same) (ap (λ z. z.records) same) way
+    way-stays h floor w v p first (unmoved w v (is ∙ reads-stay w n piece read)) way
 
 -- the end of the way: where the world stands, and what was answered
 pub record Arrived (q : Asking) (v : World) (p first : Store) (got : List Accepted) : Type 0 where
@@ -285,20 +284,20 @@ course q floor [] w v p first read high of r way = record { stands = subst (λ u
 course q floor (Moved e ∷ hs) w v p first read high of r way =
     course q floor hs r.0 v (after_event e p) first read high.1 of.1 r.2 (subst (λ u. OnWay q.head floor u (after_event e p) first) (sym r.1) (way-moved q.head floor w p first e high.0 way))
 course q floor (Did (Look k d (Looked.Rows infos)) ∷ hs) w v p first read high of r way =
-    course q floor hs r.0 v p first read high.1 of.1 r.2 (way-stays q.head floor w r.0 p first (ap (λ z. z.ranges) r.1.1) (ap (λ z. z.records) r.1.1) way)
+    course q floor hs r.0 v p first read high.1 of.1 r.2 (way-stays q.head floor w r.0 p first (look-unmoved w r.0 k d (told w (Look k d (Looked.Rows infos)) r.0 r.1).1) way)
 course q floor (Did (Look k d Looked.Lost) ∷ hs) w v p first read high of r way =
-    course q floor hs r.0 v p first read high.1 of.1 r.2 (way-stays q.head floor w r.0 p first (ap (λ z. z.ranges) r.1.0) (ap (λ z. z.records) r.1.0) way)
+    course q floor hs r.0 v p first read high.1 of.1 r.2 (way-stays q.head floor w r.0 p first (unmoved w r.0 (told w (Look k d Looked.Lost) r.0 r.1).0) way)
 course q floor (Did (Send n piece (Done rs)) ∷ hs) w v p first read high of r way =
     arrived-more q v (after_made hs p) first (pairs piece.head piece.items rs) (accepted hs)
-    (piece-plain q floor w p first n piece rs way read of.0 (service w n piece rs r.1.0))
-    (course q floor hs r.0 v p first read high.1 of.1 r.2 (way-delivered q.head floor w r.0 p first n piece r.1.1 (cuts-read piece.items q.items read of.0.cuts) way))
+    (piece-plain q floor w p first n piece rs way read of.0 (service w n piece rs (told w (Send n piece (Done rs)) r.0 r.1).0))
+    (course q floor hs r.0 v p first read high.1 of.1 r.2 (way-delivered q.head floor w r.0 p first n piece (told w (Send n piece (Done rs)) r.0 r.1).1 (cuts-read piece.items q.items read of.0.cuts) way))
 course q floor (Did (Send n piece (Failed f)) ∷ hs) w v p first read high of r way =
-    course q floor hs r.0 v p first read high.1 of.1 r.2 (way-delivered q.head floor w r.0 p first n piece r.1.1 (cuts-read piece.items q.items read of.0.cuts) way)
+    course q floor hs r.0 v p first read high.1 of.1 r.2 (way-delivered q.head floor w r.0 p first n piece (told w (Send n piece (Failed f)) r.0 r.1).1 (cuts-read piece.items q.items read of.0.cuts) way)
 course q floor (Did (Send n piece (Refused f)) ∷ hs) w v p first read high of r way =
-    course q floor hs r.0 v p first read high.1 of.1 r.2 (way-delivered q.head floor w r.0 p first n piece r.1.1 (cuts-read piece.items q.items read of.0.cuts) way)
+    course q floor hs r.0 v p first read high.1 of.1 r.2 (way-delivered q.head floor w r.0 p first n piece (told w (Send n piece (Refused f)) r.0 r.1).1 (cuts-read piece.items q.items read of.0.cuts) way)
 course q floor (Did (Send n piece Lost) ∷ hs) w v p first read high of r way =
-    course q floor hs r.0 v p first read high.1 of.1 r.2 (either r.1)
+    course q floor hs r.0 v p first read high.1 of.1 r.2 (either (told w (Send n piece Lost) r.0 r.1))
   where
-    either : Does w (Send n piece Lost) r.0 → OnWay q.head floor r.0 p first
-    either (inl same) = way-stays q.head floor w r.0 p first (ap (λ z. z.ranges) same) (ap (λ z. z.records) same) way
+    either : Told w (Send n piece Lost) r.0 → OnWay q.head floor r.0 p first
+    either (inl same) = way-stays q.head floor w r.0 p first (unmoved w r.0 same) way
     either (inr is) = way-delivered q.head floor w r.0 p first n piece is (cuts-read piece.items q.items read of.0.cuts) way

@@ -1,8 +1,10 @@
 -- The world stands for its store at first, and where a transaction begins or ends without a commit.
 use Rattle.std.proofs.Common.{◌≡◌, ℕ, ◌<◌, ◌≤◌, true, false, cond, ◌==◌, ◌+◌, List, [], ◌∷◌, ◌++◌, map, Option, Some, None, inl, inr, refl, sym, ap, ◌∙◌, subst, fold, eq-eqb, arith}
+use Rattle.std.specs.List.{list_all}
 use Rattle.std.specs.Option.{option_or}
 use Rattle.ds_base.specs.declared.value.Stamp.{Stamp}
 use Rattle.ds_base.specs.Ordered.{key_eq, at_key, AllOver, Ascends}
+use Rattle.ds_desc.specs.declared.desc.RangeDesc.{RangeDesc}
 use Rattle.ds_kind.specs.declared.reply.TxnStatus.TheVariants as Says
 use Rattle.ds_cell.specs.declared.entry.Written.{Written}
 use Rattle.ds_cell.specs.Ask.{Cells, key_of, content_of, content_at}
@@ -13,10 +15,15 @@ use Rattle.ds_cell.specs.Store.{Store, StoreTxn, Live, Pending, empty_store}
 use Rattle.ds_cell.proofs.LatestFacts.{last_where-cons}
 use Rattle.ds_rule.specs.declared.cluster.ClusterRange.{ClusterRange}
 use Rattle.ds_rule.specs.declared.record.TxnRecord.{TxnRecord}
-use Rattle.ds_rule.specs.Begin.{ranges_of, first_world}
+use Rattle.ds_rule.specs.Begin.{ranges_of, first_world, is_leased}
 use Rattle.ds_rule.specs.Close.{new_record, with_begin, settle_cells, settle_range, settle_by, commit_of, closed, close_status, status_of_last, said_status}
+use Rattle.ds_rule.specs.Keeping.{IsNewest, Keeps}
+use Rattle.ds_rule.specs.Pieces.{Each}
+use Rattle.ds_rule.specs.Steady.{has_lease, ids_differ}
 use Rattle.ds_rule.specs.StandsFor.{IsAt, AllUpTo, open_stamp, IsIntentOf, HasRecord, HasRecordOf, IsKnown, status_for, record_for, record_number, StandsFor}
 use Rattle.ds_rule.specs.World.{World, Range, end_of, contents, cell_of, Inside, Tiles}
+use Rattle.ds_world.proofs.First.{first-keeps}
+use Rattle.ds_world.proofs.Stretches.{keeps-same}
 use Rattle.ds_law.proofs.Recorded.{known-last}
 use Rattle.ds_rule.proofs.Lasts.{none-last}
 use Rattle.ds_law.proofs.Standing.{rises-last, above-with_last, up-to-last}
@@ -30,9 +37,9 @@ no-contents n (r ∷ rs) = no-contents (n + 1) rs
 nothing-at : IsAt 0 no_content no_content
 nothing-at = record { versions = refl; none_waits = refl; history = refl; owner = refl; epoch = refl; waits = λ e. refl; above = tt }
 
-pub first-stands : (rs : List ClusterRange) → Tiles [] (ranges_of 1 rs) → StandsFor (first_world rs) empty_store
-first-stands rs t = record {
-  tiled = t;
+pub first-stands : (rs : List ClusterRange) → Tiles [] (ranges_of 1 rs) → list_all is_leased rs ≡ true → StandsFor (first_world rs) empty_store
+first-stands rs t leased = record {
+  keeps = first-keeps rs t leased;
   rising = tt;
   same = λ k. subst (λ cs. IsAt 0 (content_at k cs) no_content) (sym (no-contents 1 rs)) nothing-at;
   intents = λ k. subst (λ cs. IsIntentOf None (content_at k cs)) (sym (no-contents 1 rs)) refl;
@@ -40,6 +47,7 @@ first-stands rs t = record {
   numbers = tt;
   named = tt;
   begun = tt;
+  copies = refl;
 }
 
 -- a new transaction's record is the last, and above all
@@ -84,7 +92,7 @@ pub begin-stands : (w : World) (p : Store) (t : StoreTxn) → p.txn ≡ None →
 begin-stands w p t none pending live next st =
     let clear = λ (k : List ℕ). subst (λ o. IsIntentOf o (cell_of w k)) none (st.intents k) in
     record {
-      tiled = st.tiled;
+      keeps = keeps-same w (with_begin t.asker w) refl refl st.keeps;
       rising = st.rising;
       same = λ k. at-any (open_stamp p.txn) t.asker.stamp (cell_of w k) (content_at k p.cells) (clear k) (st.same k);
       intents = λ k. inl (clear k);
@@ -92,6 +100,7 @@ begin-stands w p t none pending live next st =
       numbers = rises-one p.begun w.records (new_record t.asker) st.numbers st.begun (omega (arith, next));
       named = above-one 0 w.records (new_record t.asker) st.named (omega (arith, next));
       begun = up-to-one p.begun (p.begun + 1) w.records (new_record t.asker) (omega arith) st.begun (omega (arith, next));
+      copies = st.copies;
     }
 
 -- all intents of a transaction settled, in one range and in all
@@ -119,6 +128,23 @@ tiles-settled n c s (r ∷ rs) t = (
   },
   tiles-settled n c (end_of r) rs t.1,
 )
+
+pub settled-infos : (txn : ℕ) (commit : Option Stamp) (rs : List Range) → map (λ r. r.info) (map (settle_range txn commit) rs) ≡ map (λ r. r.info) rs
+settled-infos txn commit [] = refl
+settled-infos txn commit (r ∷ rs) = ap (λ is. r.info ∷ is) (settled-infos txn commit rs)
+
+newest-settled : (ds : List RangeDesc) (n : ℕ) (c : Option Stamp) (rs : List Range) → Each (IsNewest ds) rs → Each (IsNewest ds) (map (settle_range n c) rs)
+newest-settled ds n c [] new = tt
+newest-settled ds n c (r ∷ rs) new = (new.0, newest-settled ds n c rs new.1)
+
+keeps-settled : (n : ℕ) (c : Option Stamp) (w : World) → Keeps w → Keeps (record w { ranges = map (settle_range n c) w.ranges })
+keeps-settled n c w h = record {
+  tiled = tiles-settled n c [] w.ranges h.tiled;
+  newest = newest-settled w.descs n c w.ranges h.newest;
+  rise = h.rise;
+  ids = ap ids_differ (settled-infos n c w.ranges) ∙ h.ids;
+  leases = ap (list_all has_lease) (settled-infos n c w.ranges) ∙ h.leases;
+}
 
 settle-append : (n : ℕ) (c : Option Stamp) (xs ys : Cells) → settle_cells n c (xs ++ ys) ≡ settle_cells n c xs ++ settle_cells n c ys
 settle-append n c [] ys = refl
@@ -195,7 +221,7 @@ pub close-stands : (w : World) (p : Store) (t : StoreTxn) → p.txn ≡ Some t �
 close-stands w p t is pending known st =
     let ranges = settles-by w p t is pending known st in
     record {
-      tiled = subst (Tiles []) (sym ranges) (tiles-settled t.asker.number None [] w.ranges st.tiled);
+      keeps = keeps-same (record w { ranges = map (settle_range t.asker.number None) w.ranges }) (closed w) ranges refl (keeps-settled t.asker.number None w st.keeps);
       rising = ascends-settled t.asker.number None p.cells st.rising;
       same = λ k.
           subst (λ c. IsAt 0 c (content_at k (settle_cells t.asker.number None p.cells))) (sym (world-at ranges k))
@@ -206,6 +232,7 @@ close-stands w p t is pending known st =
       numbers = rises-last w.records st.numbers;
       named = above-with_last 0 w.records st.named;
       begun = up-to-last p.begun w.records st.begun;
+      copies = st.copies;
     }
   where
     intent : (k : List ℕ) → IsIntentOf (Some t) (cell_of w k)

@@ -24,6 +24,7 @@ use Rattle.ds_rule.specs.Pieces.{Each, PieceOf}
 use Rattle.ds_rule.specs.Plain.{is_pending}
 use Rattle.ds_rule.specs.StandsFor.{HasRecordOf, IsWho, Knows, Ready, record_for, record_number}
 use Rattle.ds_rule.specs.World.{World, Range, has_id}
+use Rattle.ds_rule.proofs.Passing.{told}
 use Rattle.ds_law.proofs.Failing.{ByItem, ByRecord, Why, none-named, runs-cut, status_of, why}
 use Rattle.ds_law.proofs.Own.{IsOfRecord, never-of-record}
 use Rattle.ds_law.proofs.Recorded.{Pends, find-last, known-last}
@@ -48,11 +49,11 @@ deliver-records w n p = to-records w n p (find (has_id p.range) w.ranges)
 quiet-records : (hs : List Happening) (w v : World) → Each IsQuiet hs → Runs w hs v → v.records ≡ w.records
 quiet-records [] w v quiet r = ap (λ z. z.records) r
 quiet-records (Moved e ∷ hs) w v quiet r = absurd quiet.0
-quiet-records (Did (Look k d (Looked.Rows infos)) ∷ hs) w v quiet r = quiet-records hs r.0 v quiet.1 r.2 ∙ ap (λ z. z.records) r.1.1
+quiet-records (Did (Look k d (Looked.Rows infos)) ∷ hs) w v quiet r = quiet-records hs r.0 v quiet.1 r.2 ∙ ap (λ z. z.records) (told w (Look k d (Looked.Rows infos)) r.0 r.1).1
 quiet-records (Did (Look k d Looked.Lost) ∷ hs) w v quiet r = absurd (quiet.0 tt)
-quiet-records (Did (Send n p (Done rs)) ∷ hs) w v quiet r = quiet-records hs r.0 v quiet.1 r.2 ∙ ap (λ z. z.records) r.1.1 ∙ deliver-records w n p
-quiet-records (Did (Send n p (Failed f)) ∷ hs) w v quiet r = quiet-records hs r.0 v quiet.1 r.2 ∙ ap (λ z. z.records) r.1.1 ∙ deliver-records w n p
-quiet-records (Did (Send n p (Refused f)) ∷ hs) w v quiet r = quiet-records hs r.0 v quiet.1 r.2 ∙ ap (λ z. z.records) r.1.1 ∙ deliver-records w n p
+quiet-records (Did (Send n p (Done rs)) ∷ hs) w v quiet r = quiet-records hs r.0 v quiet.1 r.2 ∙ ap (λ z. z.records) (told w (Send n p (Done rs)) r.0 r.1).1 ∙ deliver-records w n p
+quiet-records (Did (Send n p (Failed f)) ∷ hs) w v quiet r = quiet-records hs r.0 v quiet.1 r.2 ∙ ap (λ z. z.records) (told w (Send n p (Failed f)) r.0 r.1).1 ∙ deliver-records w n p
+quiet-records (Did (Send n p (Refused f)) ∷ hs) w v quiet r = quiet-records hs r.0 v quiet.1 r.2 ∙ ap (λ z. z.records) (told w (Send n p (Refused f)) r.0 r.1).1 ∙ deliver-records w n p
 quiet-records (Did (Send n p Lost) ∷ hs) w v quiet r = absurd (quiet.0 tt)
 
 -- the record of a pending transaction takes pieces, and there is none without a transaction
@@ -71,7 +72,7 @@ pending-free (Some n) (Some t) rs who known has rise named pend =
 
 -- so a failure is one of a request
 pub never-ended : (batch : Batch) (q : Asking) (a b : Stands) (p : Store) (f : Failure) (got : List Accepted) (path : Path q a b got) → Each IsQuiet path.added → Ready a p batch q → Pends q.head.txn p.txn → IsOfRecord f → LastFails f path.added → ⊥
-never-ended batch q a b p f got path quiet ready pend ended last = by (why cut.0 last.node last.piece f cut.2.1.0)
+never-ended batch q a b p f got path quiet ready pend ended last = by (why cut.0 last.node last.piece f (told cut.0 (Send last.node last.piece (Failed f)) cut.2.0 cut.2.1).0)
   where
     step : List Happening
     step = Did (Send last.node last.piece (Failed f)) ∷ []

@@ -1,5 +1,5 @@
 -- Steps that served nothing leave what the world holds as it was.
-use Rattle.std.proofs.Common.{◌≡◌, ℕ, List, [], ◌∷◌, Option, Some, None, refl, ap, ◌∙◌}
+use Rattle.std.proofs.Common.{◌≡◌, ℕ, List, [], ◌∷◌, Option, Some, None, refl, ◌∙◌}
 use Rattle.std.specs.List.{find}
 use Rattle.ds_desc.specs.declared.meta.Looked.TheVariants as Looked
 use Rattle.ds_desc.specs.declared.refusal.Refusal.{Refusal}
@@ -18,7 +18,8 @@ use Rattle.ds_rule.specs.Law.{IsQuiet}
 use Rattle.ds_rule.specs.Pieces.{Each}
 use Rattle.ds_rule.specs.StandsFor.{StandsFor, after_made}
 use Rattle.ds_rule.specs.World.{World, Range, has_id}
-use Rattle.ds_law.proofs.Truth.{looks-stay}
+use Rattle.ds_rule.proofs.Passing.{told}
+use Rattle.ds_law.proofs.Truth.{Unmoved, look-unmoved, looks-stay, unmoved}
 
 -- a store that nothing happens to beside the steps stays as it is
 pub quiet-made : (hs : List Happening) (p : Store) → Each IsQuiet hs → after_made hs p ≡ p
@@ -52,30 +53,22 @@ failed-not-done f rs h = cc
 refused-not-done : (r : Refusal) → IsNotDone (Refused r)
 refused-not-done r rs h = cc
 
--- the ranges and the records are the same
-pub record Unmoved (w v : World) : Type 0 where
-  pub ranges : v.ranges ≡ w.ranges
-  pub records : v.records ≡ w.records
-
-unmoved : (w v : World) → v ≡ w → Unmoved w v
-unmoved w v h = record { ranges = ap (λ z. z.ranges) h; records = ap (λ z. z.records) h }
-
 unmoved-then : (w m v : World) → Unmoved w m → Unmoved m v → Unmoved w v
-unmoved-then w m v a b = record { ranges = b.ranges ∙ a.ranges; records = b.records ∙ a.records }
+unmoved-then w m v a b = record { ranges = b.ranges ∙ a.ranges; descs = b.descs ∙ a.descs; records = b.records ∙ a.records; copies = b.copies ∙ a.copies }
 
 pub idle-stays : (hs : List Happening) (w v : World) → Each IsIdle hs → Each IsQuiet hs → Runs w hs v → Unmoved w v
 idle-stays [] w v idle quiet r = unmoved w v r
 idle-stays (Moved e ∷ hs) w v idle quiet r = absurd quiet.0
 idle-stays (Did (Look k d (Looked.Rows infos)) ∷ hs) w v idle quiet r =
-    unmoved-then w r.0 v (record { ranges = ap (λ z. z.ranges) r.1.1; records = ap (λ z. z.records) r.1.1 }) (idle-stays hs r.0 v idle.1 quiet.1 r.2)
+    unmoved-then w r.0 v (look-unmoved w r.0 k d (told w (Look k d (Looked.Rows infos)) r.0 r.1).1) (idle-stays hs r.0 v idle.1 quiet.1 r.2)
 idle-stays (Did (Look k d Looked.Lost) ∷ hs) w v idle quiet r = absurd (quiet.0 tt)
 idle-stays (Did (Send n p (Done rs)) ∷ hs) w v idle quiet r = absurd idle.0
 idle-stays (Did (Send n p (Failed f)) ∷ hs) w v idle quiet r =
-    unmoved-then w r.0 v (unmoved w r.0 (r.1.1 ∙ not-done-stays w n p (Failed f) (failed-not-done f) r.1.0)) (idle-stays hs r.0 v idle.1 quiet.1 r.2)
+    unmoved-then w r.0 v (unmoved w r.0 ((told w (Send n p (Failed f)) r.0 r.1).1 ∙ not-done-stays w n p (Failed f) (failed-not-done f) (told w (Send n p (Failed f)) r.0 r.1).0)) (idle-stays hs r.0 v idle.1 quiet.1 r.2)
 idle-stays (Did (Send n p (Refused f)) ∷ hs) w v idle quiet r =
-    unmoved-then w r.0 v (unmoved w r.0 (r.1.1 ∙ not-done-stays w n p (Refused f) (refused-not-done f) r.1.0)) (idle-stays hs r.0 v idle.1 quiet.1 r.2)
+    unmoved-then w r.0 v (unmoved w r.0 ((told w (Send n p (Refused f)) r.0 r.1).1 ∙ not-done-stays w n p (Refused f) (refused-not-done f) (told w (Send n p (Refused f)) r.0 r.1).0)) (idle-stays hs r.0 v idle.1 quiet.1 r.2)
 idle-stays (Did (Send n p Lost) ∷ hs) w v idle quiet r = absurd (quiet.0 tt)
 
 -- so the world stands for the store as before
 pub idle-stands : (hs : List Happening) (w v : World) (p : Store) → Each IsIdle hs → Each IsQuiet hs → Runs w hs v → StandsFor w p → StandsFor v p
-idle-stands hs w v p idle quiet r st = let same = idle-stays hs w v idle quiet r in looks-stay w p v same.ranges same.records st
+idle-stands hs w v p idle quiet r st = looks-stay w p v (idle-stays hs w v idle quiet r) st

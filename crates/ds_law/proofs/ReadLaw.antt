@@ -30,6 +30,7 @@ use Rattle.ds_rule.specs.Pieces.{Each}
 use Rattle.ds_rule.specs.Plain.{Answered, uses_numbers, counted_txn, if_of_txn, counted_store, failed_mode, failed_txn, failed_store, is_pending, is_rollback, finds_pending, in_doubt, doubtful, count_numbered, asker_in}
 use Rattle.ds_rule.specs.StandsFor.{IsAt, open_stamp, IsIntentOf, HasRecord, HasRecordOf, record_for, status_for, StandsFor, after_made, IsBefore, IsKnown, IsWho, Knows, Ready}
 use Rattle.ds_rule.specs.World.{World, cell_of}
+use Rattle.ds_rule.proofs.Passing.{told}
 use Rattle.ds_law.proofs.Course.{OnWay, IsPlain, Arrived, course}
 use Rattle.ds_law.proofs.Failing.{reads-fail, nothing-stops, runs-cut}
 use Rattle.ds_law.proofs.Joining.{gathered-asks, joined-some}
@@ -82,7 +83,7 @@ like-recorded (Some t) (Some u) rs l h = as-known u.mode t u rs (λ k. known-las
 
 pub stands-like : (w : World) (p : Store) (o : Option StoreTxn) → Like p.txn o → StandsFor w p → StandsFor w (record p { txn = o })
 stands-like w p o l st = record {
-  tiled = st.tiled;
+  keeps = st.keeps;
   rising = st.rising;
   same = λ k. subst (λ s. IsAt s (cell_of w k) (content_at k p.cells)) (like-stamp p.txn o l) (st.same k);
   intents = λ k. like-intent p.txn o (cell_of w k) l (st.intents k);
@@ -90,6 +91,7 @@ stands-like w p o l st = record {
   numbers = st.numbers;
   named = st.named;
   begun = st.begun;
+  copies = st.copies;
 }
 
 pub like-itself : (o : Option StoreTxn) → Like o o
@@ -308,7 +310,7 @@ never-committed a b p batch q got f reading path ready alone last =
     let of = subst (Each (IsOf q)) last.last path.of in
     let here = (each-right (IsOf q) last.before step of).0 in
     let at = course q a.floor last.before a.world cut.0 p p (each-read q.items reading.reads) high (each-left (IsOf q) last.before step of) cut.1 (way-known a p batch q p.txn (like-itself p.txn) (λ k. k) ready) in
-    let stops = reads-fail cut.0 last.node last.piece f (cuts-read last.piece.items q.items (each-read q.items reading.reads) here.cuts) cut.2.1.0 in
+    let stops = reads-fail cut.0 last.node last.piece f (cuts-read last.piece.items q.items (each-read q.items reading.reads) here.cuts) (told cut.0 (Send last.node last.piece (Failed f)) cut.2.0 cut.2.1).0 in
     none_some f (sym (nothing-stops cut.0 last.piece at.stands.named (ap txn_of here.head ∙ ap txn_number alone)) ∙ stops)
 
 doubt-by : (at : Option Stamp) (a b : Stands) (p : Store) (batch : Batch) (q : Asking) (lost : ℕ) (got : List Accepted) → batch.at ≡ at → IsReading batch q → (path : Path q a b got) → Ready a p batch q → LastFails Failure.Committed path.added → LeadsTo a b p batch (Outcome.Ambiguous lost)

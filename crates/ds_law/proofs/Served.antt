@@ -16,6 +16,7 @@ use Rattle.ds_rule.specs.Deliver.{deliver_answer}
 use Rattle.ds_rule.specs.Gathered.{IsBody}
 use Rattle.ds_rule.specs.Journal.{Runs}
 use Rattle.ds_rule.specs.World.{World}
+use Rattle.ds_rule.proofs.Passing.{told}
 use Rattle.ds_rule.proofs.Service.{service}
 
 -- the first reply is of its request's kind, and there is one
@@ -38,7 +39,7 @@ first-asked : (h : Head) (i : Item) (is : List Item) (now : Cells) (cells : Cell
 first-asked h i is now cells vs rs g = first-made h i (ask_request i.request (at_of h i.seq.0) now) now (ask_all h is) cells vs rs g
 
 last-step : (ms : List Event) (w v : World) (n : ℕ) (p : Piece) (rs : List Reply) → Runs w (and_step ms (Send n p (Done rs))) v → (u : World) × (Done rs ≡ deliver_answer u n p)
-last-step [] w v n p rs r = (w, r.1.0)
+last-step [] w v n p rs r = (w, (told w (Send n p (Done rs)) r.0 r.1).0)
 last-step (m ∷ ms) w v n p rs r = last-step ms r.0 v n p rs r.2
 
 -- so of a step that was answered Done

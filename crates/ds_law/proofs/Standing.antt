@@ -1,5 +1,6 @@
 -- What happens beside the sender keeps the world standing for its store.
-use Rattle.std.proofs.Common.{◌≡◌, ℕ, ◌<◌, ◌≤◌, Bool, true, false, cond, ◌+◌, List, [], ◌∷◌, ◌++◌, Option, Some, None, refl, sym, ap, ◌∙◌, subst, fold, arith}
+use Rattle.std.proofs.Common.{◌≡◌, ℕ, ◌<◌, ◌≤◌, Bool, true, false, cond, List, [], ◌∷◌, ◌++◌, Option, Some, None, refl, sym, ap, ◌∙◌, subst, fold, arith}
+use Rattle.std.specs.List.{find}
 use Rattle.std.specs.Option.{option_or, option_map}
 use Rattle.ds_base.specs.Order.{key_lt, bound}
 use Rattle.ds_base.specs.Ordered.{key_eq}
@@ -13,16 +14,19 @@ use Rattle.ds_cell.specs.Store.{Store, StoreTxn, Mode, Live, FailedSince, Unknow
 use Rattle.ds_cell.proofs.LatestFacts.{last_where-cons}
 use Rattle.ds_rule.specs.declared.event.Event.{Event}
 use Rattle.ds_rule.specs.declared.record.TxnRecord.{TxnRecord}
-use Rattle.ds_rule.specs.Clauses.{IsAbove}
-use Rattle.ds_rule.specs.Moves.{moved, with_last, with_last_after, aborted}
+use Rattle.ds_rule.specs.Keeping.{Keeps}
+use Rattle.ds_rule.specs.Moves.{IsMove, counted, moved, arrived, arrived_as, is_copy, with_last, with_last_after, aborted}
 use Rattle.ds_rule.specs.Plain.{after_event, abort_txn, aborted_by}
+use Rattle.ds_rule.specs.Shifts.{foreign_at, lease_to, merge_at, move_to, split_at, stale_by}
 use Rattle.ds_rule.specs.StandsFor.{IsAt, AllUpTo, open_stamp, IsIntentOf, HasRecord, HasRecordOf, record_for, record_number, StandsFor}
-use Rattle.ds_rule.specs.World.{World, contents, cell_of, holds_key, replaced}
+use Rattle.ds_rule.specs.World.{World, contents, cell_of}
 use Rattle.ds_rule.proofs.Lasts.{none-last, some-last}
-use Rattle.ds_rule.proofs.Puts.{contents-put, put-at}
-use Rattle.ds_rule.proofs.Routes.{contents-ascend, least}
+use Rattle.ds_rule.proofs.Puts.{put-at}
+use Rattle.ds_rule.proofs.Routes.{contents-ascend}
 use Rattle.ds_cell.specs.StoreProofs.{ascends-insert}
-use Rattle.ds_rule.proofs.Tiling.{tiles-put}
+use Rattle.ds_world.proofs.Foreign.{foreign-contents, foreign-keeps}
+use Rattle.ds_world.proofs.Shifted.{lease_holds, lease_keeps, merge_holds, merge_keeps, move_holds, move_keeps, split_holds, split_keeps, stale_keeps, stale_rest}
+use Rattle.ds_world.proofs.Stretches.{keeps-same}
 
 fold-more : (vs ws : List Version) (v : Version) → fold made vs (ws ++ v ∷ []) ≡ made (fold made vs ws) v
 fold-more vs [] v = refl
@@ -70,11 +74,11 @@ intent-put o v true c c' h h' = intent-by o (last_of c.history) v c h
 intent-put o v false c c' h h' = h'
 
 -- the world after one key of it was written by another client, beside the store with that version
-pub stands-write : (w : World) (p : Store) (k : List ℕ) (v : Version) → key_lt k bound ≡ true → open_stamp p.txn < v.stamp.0 → StandsFor w p → StandsFor (record w { ranges = replaced (holds_key k) (λ r. record r { cells = put_cell k (after_foreign v) r.cells }) w.ranges; count = w.count + 1 }) (record p { cells = put_cell k (with_version v) p.cells })
+pub stands-write : (w : World) (p : Store) (k : List ℕ) (v : Version) → key_lt k bound ≡ true → open_stamp p.txn < v.stamp.0 → StandsFor w p → StandsFor (counted (foreign_at k v w)) (record p { cells = put_cell k (with_version v) p.cells })
 stands-write w p k v key high st =
-    let all = contents-put k (after_foreign v) [] w.ranges st.tiled (least k) key in
+    let all = foreign-contents k v w st.keeps key in
     record {
-      tiled = tiles-put k (after_foreign v) [] w.ranges st.tiled;
+      keeps = keeps-same (foreign_at k v w) (counted (foreign_at k v w)) refl refl (foreign-keeps k v w st.keeps);
       rising = ascends-insert k _ p.cells st.rising;
       same = λ q.
           subst (λ c. IsAt (open_stamp p.txn) c (content_at q (put_cell k (with_version v) p.cells))) (sym (world-at all q))
@@ -85,10 +89,11 @@ stands-write w p k v key high st =
       numbers = st.numbers;
       named = st.named;
       begun = st.begun;
+      copies = st.copies;
     }
   where
-    world-at : contents (replaced (holds_key k) (λ r. record r { cells = put_cell k (after_foreign v) r.cells }) w.ranges) ≡ put_cell k (after_foreign v) (contents w.ranges) → (q : List ℕ) → content_at q (contents (replaced (holds_key k) (λ r. record r { cells = put_cell k (after_foreign v) r.cells }) w.ranges)) ≡ cond (key_eq k q) (after_foreign v (cell_of w k)) (cell_of w q)
-    world-at all q = ap (content_at q) all ∙ put-at k q (after_foreign v) (contents w.ranges) (contents-ascend [] w.ranges st.tiled)
+    world-at : contents (foreign_at k v w).ranges ≡ put_cell k (after_foreign v) (contents w.ranges) → (q : List ℕ) → content_at q (contents (foreign_at k v w).ranges) ≡ cond (key_eq k q) (after_foreign v (cell_of w k)) (cell_of w q)
+    world-at all q = ap (content_at q) all ∙ put-at k q (after_foreign v) (contents w.ranges) (contents-ascend [] w.ranges st.keeps.tiled)
 
 -- an abort ends the record, and the store knows it
 
@@ -173,7 +178,7 @@ up-to-last n (t ∷ ts) all = up-to-after n t ts all.0 all.1
 
 stands-abort : (w : World) (p : Store) → StandsFor w p → StandsFor (moved w Event.Abort) (after_event Event.Abort p)
 stands-abort w p st = record {
-  tiled = st.tiled;
+  keeps = keeps-same w (moved w Event.Abort) refl refl st.keeps;
   rising = st.rising;
   same = λ k. subst (λ s. IsAt s (cell_of w k) (content_at k p.cells)) (sym (abort-stamp p.txn)) (st.same k);
   intents = λ k. abort-intent p.txn (cell_of w k) (st.intents k);
@@ -181,22 +186,56 @@ stands-abort w p st = record {
   numbers = rises-last w.records st.numbers;
   named = above-with_last 0 w.records st.named;
   begun = up-to-last p.begun w.records st.begun;
+  copies = st.copies;
 }
 
-stands-counted : (w : World) (p : Store) → StandsFor w p → StandsFor (record w { count = w.count + 1 }) p
-stands-counted w p st = record { tiled = st.tiled; rising = st.rising; same = st.same; intents = st.intents; recorded = st.recorded; numbers = st.numbers; named = st.named; begun = st.begun }
+-- what leaves all contents, the records and the late copies
+pub record Leaves (w v : World) : Type 0 where
+  pub keeps : Keeps v
+  pub contents : contents v.ranges ≡ contents w.ranges
+  pub records : v.records ≡ w.records
+  pub copies : v.copies ≡ w.copies
+
+pub stands-left : (w v : World) (p : Store) → Leaves w v → StandsFor w p → StandsFor v p
+stands-left w v p l st = record {
+  keeps = l.keeps;
+  rising = st.rising;
+  same = λ q. subst (λ cs. IsAt (open_stamp p.txn) (content_at q cs) (content_at q p.cells)) (sym l.contents) (st.same q);
+  intents = λ q. subst (λ cs. IsIntentOf p.txn (content_at q cs)) (sym l.contents) (st.intents q);
+  recorded = subst (HasRecordOf p.txn) (sym l.records) st.recorded;
+  numbers = subst (Rises record_number) (sym l.records) st.numbers;
+  named = subst (AllAbove record_number 0) (sym l.records) st.named;
+  begun = subst (AllUpTo record_number p.begun) (sym l.records) st.begun;
+  copies = l.copies ∙ st.copies;
+}
+
+-- a shift of the ranges, counted
+shift-leaves : (w v : World) → Keeps v → contents v.ranges ≡ contents w.ranges → v.records ≡ w.records → v.copies ≡ w.copies → Leaves w (counted v)
+shift-leaves w v keeps all records copies = record { keeps = keeps-same v (counted v) refl refl keeps; contents = all; records = records; copies = copies }
+
+stale-leaves : (w : World) (k : List ℕ) (b : ℕ) → Keeps w → Leaves w (counted (stale_by k b w))
+stale-leaves w k b keeps =
+    let rest = stale_rest k b w in
+    shift-leaves w (stale_by k b w) (stale_keeps k b w keeps) (ap (λ z. contents z.ranges) rest) (ap (λ z. z.records) rest) (ap (λ z. z.copies) rest)
+
+-- where no copy is under way, none arrives
+none-arrives : (w : World) (c : ℕ) → w.copies ≡ [] → w ≡ arrived c w
+none-arrives w c none = sym (ap (λ ls. arrived_as (find (is_copy c) ls) c w) none)
+
+arrive-leaves : (w : World) (c : ℕ) → Keeps w → w.copies ≡ [] → Leaves w (counted (arrived c w))
+arrive-leaves w c keeps none = subst (λ v. Leaves w (counted v)) (none-arrives w c none) (shift-leaves w w keeps refl refl refl)
 
 -- every move of the world is one of the store
-pub stands-moved : (w : World) (p : Store) (e : Event) (floor : ℕ) → IsAbove floor e → open_stamp p.txn ≤ floor → StandsFor w p → StandsFor (moved w e) (after_event e p)
+pub stands-moved : (w : World) (p : Store) (e : Event) (floor : ℕ) → IsMove floor e → open_stamp p.txn ≤ floor → StandsFor w p → StandsFor (moved w e) (after_event e p)
 stands-moved w p (Event.Write k s v) floor above low st = stands-write w p k (record { stamp = s; value = v }) above.1 (let h : floor < s.0 = above.0 in omega (arith, low, h)) st
 stands-moved w p Event.Abort floor above low st = stands-abort w p st
-stands-moved w p (Event.Split k) floor above low st = stands-counted w p st
-stands-moved w p (Event.Merge k) floor above low st = stands-counted w p st
-stands-moved w p (Event.Lease k n) floor above low st = stands-counted w p st
-stands-moved w p (Event.Move k ns) floor above low st = stands-counted w p st
-stands-moved w p (Event.Stale k b) floor above low st = stands-counted w p st
-stands-moved w p (Event.Arrive c) floor above low st = stands-counted w p st
-stands-moved w p (Event.LoseRequest c) floor above low st = stands-counted w p st
-stands-moved w p (Event.LoseReply c) floor above low st = stands-counted w p st
-stands-moved w p (Event.Copy c) floor above low st = stands-counted w p st
-stands-moved w p (Event.Restart t) floor above low st = stands-counted w p st
+stands-moved w p (Event.Split k) floor above low st = stands-left w (moved w (Event.Split k)) p (shift-leaves w (split_at k w) (split_keeps k w st.keeps) (split_holds k w st.keeps) refl refl) st
+stands-moved w p (Event.Merge k) floor above low st = stands-left w (moved w (Event.Merge k)) p (shift-leaves w (merge_at k w) (merge_keeps k w st.keeps) (merge_holds k w st.keeps) refl refl) st
+stands-moved w p (Event.Lease k n) floor above low st = stands-left w (moved w (Event.Lease k n)) p (shift-leaves w (lease_to k n w) (lease_keeps k n w st.keeps) (lease_holds k n w st.keeps) refl refl) st
+stands-moved w p (Event.Move k ns) floor above low st = stands-left w (moved w (Event.Move k ns)) p (shift-leaves w (move_to k ns w) (move_keeps k ns w above st.keeps) (move_holds k ns w above st.keeps) refl refl) st
+stands-moved w p (Event.Stale k b) floor above low st = stands-left w (moved w (Event.Stale k b)) p (stale-leaves w k b st.keeps) st
+stands-moved w p (Event.Arrive c) floor above low st = stands-left w (moved w (Event.Arrive c)) p (arrive-leaves w c st.keeps st.copies) st
+stands-moved w p (Event.LoseRequest c) floor above low st = absurd above
+stands-moved w p (Event.LoseReply c) floor above low st = absurd above
+stands-moved w p (Event.Copy c) floor above low st = absurd above
+stands-moved w p (Event.Restart t) floor above low st = absurd above

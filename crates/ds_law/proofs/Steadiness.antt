@@ -22,9 +22,9 @@ use Rattle.ds_rule.specs.declared.event.Event.TheVariants.{Write}
 use Rattle.ds_rule.specs.declared.journal.JournalStep.TheVariants.{Look, Send}
 use Rattle.ds_rule.specs.declared.record.TxnRecord.{TxnRecord}
 use Rattle.ds_rule.specs.Asking.{Made, Gives, Fails}
-use Rattle.ds_rule.specs.Begin.{ranges_of, first_world, is_leased}
+use Rattle.ds_rule.specs.Begin.{first_world, is_leased}
 use Rattle.ds_rule.specs.Cause.{UsedUp, refused_in, lost_in}
-use Rattle.ds_rule.specs.Close.{closed, settle_by, settle_range, with_begin}
+use Rattle.ds_rule.specs.Close.{closed, settle_by, with_begin}
 use Rattle.ds_rule.specs.Deliver.{Stop, Turned, answer_at, answer_made, deliver_answer, deliver_answer_to, deliver_world, deliver_world_to, ends, holds_item, mismatch_rows, served, stops, world_at, world_made}
 use Rattle.ds_rule.specs.Journal.{Happening, Moved, Did, Runs}
 use Rattle.ds_rule.specs.Law.{IsQuiet}
@@ -33,24 +33,12 @@ use Rattle.ds_rule.specs.Path.{AreRouted, GoesTo, IsRouted, route_by}
 use Rattle.ds_rule.specs.Pieces.{Each, IsOneOf}
 use Rattle.ds_rule.specs.Steady.{Steady, has_lease, ids_differ, infos_in}
 use Rattle.ds_rule.specs.World.{World, Range, from_first, in_order, look_rows, look_world, rows_at, without_first, has_id, holds_key, replaced}
+use Rattle.ds_world.proofs.First.{first-ids, first-leases}
+use Rattle.ds_rule.proofs.Passing.{told}
 use Rattle.ds_law.proofs.Failing.{status_of}
+use Rattle.ds_law.proofs.Lifetime.{settled-infos}
 
 -- at first
-
-other-id : (id n : ℕ) (rs : List ClusterRange) → id < n → list_any (λ j. j.desc.id == id) (map (λ r. r.info) (ranges_of n rs)) ≡ false
-other-id id n [] low = refl
-other-id id n (r ∷ rs) low =
-    ap (λ t. t || list_any (λ j. j.desc.id == id) (map (λ r. r.info) (ranges_of (n + 1) rs))) (ne_eqb n id (λ e. omega (arith, e, low)))
-    ∙ other-id id (n + 1) rs (omega (arith, low))
-
-first-ids : (id : ℕ) (rs : List ClusterRange) → ids_differ (map (λ r. r.info) (ranges_of id rs)) ≡ true
-first-ids id [] = refl
-first-ids id (r ∷ rs) = ap (λ t. not t && ids_differ (map (λ r. r.info) (ranges_of (id + 1) rs))) (other-id id (id + 1) rs (omega arith)) ∙ first-ids (id + 1) rs
-
-first-leases : (id : ℕ) (rs : List ClusterRange) → list_all is_leased rs ≡ true → list_all has_lease (map (λ r. r.info) (ranges_of id rs)) ≡ true
-first-leases id [] h = refl
-first-leases id (r ∷ rs) h =
-    ap (λ t. t && list_all has_lease (map (λ r. r.info) (ranges_of (id + 1) rs))) (and_first (is_leased r) _ h) ∙ first-leases (id + 1) rs (and_second (is_leased r) _ h)
 
 pub first-steady : (rs : List ClusterRange) → list_all is_leased rs ≡ true → Steady (first_world rs)
 first-steady rs h = record { current = refl; ids = first-ids 1 rs; leases = first-leases 1 rs h }
@@ -77,10 +65,6 @@ write-steady w k s v st = still-steady w (moved w (Write k s v)) (same-infos (ho
 
 pub begin-steady : (w : World) (t : Asker) → Steady w → Steady (with_begin t w)
 begin-steady w t st = record { current = st.current; ids = st.ids; leases = st.leases }
-
-settled-infos : (txn : ℕ) (commit : Option Stamp) (rs : List Range) → map (λ r. r.info) (map (settle_range txn commit) rs) ≡ map (λ r. r.info) rs
-settled-infos txn commit [] = refl
-settled-infos txn commit (r ∷ rs) = ap (λ is. r.info ∷ is) (settled-infos txn commit rs)
 
 closed-infos : (o : Option TxnRecord) (rs : List Range) → map (λ r. r.info) (settle_by o rs) ≡ map (λ r. r.info) rs
 closed-infos None rs = refl
@@ -113,11 +97,11 @@ deliver-steady w n p st = to-steady w n p (find (has_id p.range) w.ranges) st
 pub quiet-steady : (hs : List Happening) (w v : World) → Each IsQuiet hs → Runs w hs v → Steady w → Steady v
 quiet-steady [] w v quiet r st = subst Steady (sym r) st
 quiet-steady (Moved e ∷ hs) w v quiet r st = absurd quiet.0
-quiet-steady (Did (Look k d (Looked.Rows infos)) ∷ hs) w v quiet r st = quiet-steady hs r.0 v quiet.1 r.2 (subst Steady (sym r.1.1) (look-steady w k d st))
+quiet-steady (Did (Look k d (Looked.Rows infos)) ∷ hs) w v quiet r st = quiet-steady hs r.0 v quiet.1 r.2 (subst Steady (sym (told w (Look k d (Looked.Rows infos)) r.0 r.1).1) (look-steady w k d st))
 quiet-steady (Did (Look k d Looked.Lost) ∷ hs) w v quiet r st = absurd (quiet.0 tt)
-quiet-steady (Did (Send n p (Done rs)) ∷ hs) w v quiet r st = quiet-steady hs r.0 v quiet.1 r.2 (subst Steady (sym r.1.1) (deliver-steady w n p st))
-quiet-steady (Did (Send n p (Failed f)) ∷ hs) w v quiet r st = quiet-steady hs r.0 v quiet.1 r.2 (subst Steady (sym r.1.1) (deliver-steady w n p st))
-quiet-steady (Did (Send n p (Refused f)) ∷ hs) w v quiet r st = quiet-steady hs r.0 v quiet.1 r.2 (subst Steady (sym r.1.1) (deliver-steady w n p st))
+quiet-steady (Did (Send n p (Done rs)) ∷ hs) w v quiet r st = quiet-steady hs r.0 v quiet.1 r.2 (subst Steady (sym (told w (Send n p (Done rs)) r.0 r.1).1) (deliver-steady w n p st))
+quiet-steady (Did (Send n p (Failed f)) ∷ hs) w v quiet r st = quiet-steady hs r.0 v quiet.1 r.2 (subst Steady (sym (told w (Send n p (Failed f)) r.0 r.1).1) (deliver-steady w n p st))
+quiet-steady (Did (Send n p (Refused f)) ∷ hs) w v quiet r st = quiet-steady hs r.0 v quiet.1 r.2 (subst Steady (sym (told w (Send n p (Refused f)) r.0 r.1).1) (deliver-steady w n p st))
 quiet-steady (Did (Send n p Lost) ∷ hs) w v quiet r st = absurd (quiet.0 tt)
 
 -- a lookup's first row is of a range
@@ -259,20 +243,20 @@ pub all-taken : (hs : List Happening) (route : Option Info) (w v : World) → St
 all-taken [] route w v st found routed quiet r = record { refusals = refl; losses = refl }
 all-taken (Moved e ∷ hs) route w v st found routed quiet r = absurd quiet.0
 all-taken (Did (Look k d (Looked.Rows infos)) ∷ hs) route w v st found routed quiet r =
-    let after : r.0 ≡ look_world w k d = r.1.1 in
-    let more = all-taken hs (route_by (Look k d (Looked.Rows infos))) r.0 v (subst Steady (sym after) (look-steady w k d st)) (subst (IsFound (route_by (Look k d (Looked.Rows infos)))) (sym after) (found-by w k d infos st r.1.0)) routed.1 quiet.1 r.2 in
+    let after : r.0 ≡ look_world w k d = (told w (Look k d (Looked.Rows infos)) r.0 r.1).1 in
+    let more = all-taken hs (route_by (Look k d (Looked.Rows infos))) r.0 v (subst Steady (sym after) (look-steady w k d st)) (subst (IsFound (route_by (Look k d (Looked.Rows infos)))) (sym after) (found-by w k d infos st (told w (Look k d (Looked.Rows infos)) r.0 r.1).0)) routed.1 quiet.1 r.2 in
     let sums = one-taken hs _ _ more refl refl in
     record { refusals = sums.0; losses = sums.1 }
 all-taken (Did (Look k d Looked.Lost) ∷ hs) route w v st found routed quiet r = absurd (quiet.0 tt)
 all-taken (Did (Send n p (Done rs)) ∷ hs) route w v st found routed quiet r =
-    let more = all-taken hs None r.0 v (subst Steady (sym r.1.1) (deliver-steady w n p st)) tt routed.1 quiet.1 r.2 in
+    let more = all-taken hs None r.0 v (subst Steady (sym (told w (Send n p (Done rs)) r.0 r.1).1) (deliver-steady w n p st)) tt routed.1 quiet.1 r.2 in
     let sums = one-taken hs _ _ more refl refl in
     record { refusals = sums.0; losses = sums.1 }
 all-taken (Did (Send n p (Failed f)) ∷ hs) route w v st found routed quiet r =
-    let more = all-taken hs None r.0 v (subst Steady (sym r.1.1) (deliver-steady w n p st)) tt routed.1 quiet.1 r.2 in
+    let more = all-taken hs None r.0 v (subst Steady (sym (told w (Send n p (Failed f)) r.0 r.1).1) (deliver-steady w n p st)) tt routed.1 quiet.1 r.2 in
     let sums = one-taken hs _ _ more refl refl in
     record { refusals = sums.0; losses = sums.1 }
-all-taken (Did (Send n p (Refused f)) ∷ hs) route w v st found routed quiet r = absurd (refused-never w route n p f st found routed.0 r.1.0)
+all-taken (Did (Send n p (Refused f)) ∷ hs) route w v st found routed quiet r = absurd (refused-never w route n p f st found routed.0 (told w (Send n p (Refused f)) r.0 r.1).0)
 all-taken (Did (Send n p Lost) ∷ hs) route w v st found routed quiet r = absurd (quiet.0 tt)
 
 -- a budget of some tries is never used up where none is spent

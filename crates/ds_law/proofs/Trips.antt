@@ -14,8 +14,9 @@ use Rattle.ds_rule.specs.declared.journal.JournalStep.{JournalStep}
 use Rattle.ds_rule.specs.declared.journal.JournalStep.TheVariants.{Look, Send}
 use Rattle.ds_rule.specs.Asking.{Asking}
 use Rattle.ds_rule.specs.Cause.{Trip, refused_in, lost_in, refusals_of, losses_of}
-use Rattle.ds_rule.specs.Clauses.{Stands, Steps, IsAbove, IsLost, and_step}
+use Rattle.ds_rule.specs.Clauses.{Stands, Steps, IsLost, and_step}
 use Rattle.ds_rule.specs.Journal.{Happening, Moved, Did, Runs, Accepted, accepted, accepted_by}
+use Rattle.ds_rule.specs.Moves.{IsMove}
 use Rattle.ds_rule.specs.Path.{AreRouted, GoesTo, IsHigh, IsOf, IsRouted, IsStepOf, LosesOnly, route_by}
 use Rattle.ds_rule.specs.Pieces.{Each, PieceOf}
 use Rattle.ds_rule.specs.World.{World}
@@ -71,7 +72,7 @@ step-accepted : (ms : List Event) (s : JournalStep) → accepted (and_step ms s)
 step-accepted [] s = append_nil (accepted_by s)
 step-accepted (m ∷ ms) s = step-accepted ms s
 
-step-high : (floor : ℕ) (ms : List Event) (s : JournalStep) → Each (IsAbove floor) ms → Each (IsHigh floor) (and_step ms s)
+step-high : (floor : ℕ) (ms : List Event) (s : JournalStep) → Each (IsMove floor) ms → Each (IsHigh floor) (and_step ms s)
 step-high floor [] s all = (tt, tt)
 step-high floor (m ∷ ms) s all = (all.0, step-high floor ms s all.1)
 

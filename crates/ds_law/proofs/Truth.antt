@@ -1,6 +1,7 @@
 -- What the pieces of a batch that only reads are answered: what the store would answer.
 use Rattle.std.proofs.Common.{◌≡◌, ℕ, Bool, true, false, cond, List, [], ◌∷◌, map, Option, Some, None, inl, inr, refl, sym, ap, ◌∙◌, subst}
 use Rattle.std.specs.List.{find}
+use Rattle.ds_base.specs.declared.value.Dir.{Dir}
 use Rattle.ds_base.specs.declared.value.TxnNo.{TxnNo}
 use Rattle.ds_kind.specs.Asks.{is_get_or_scan}
 use Rattle.ds_kind.specs.Request.{cut_to}
@@ -10,17 +11,18 @@ use Rattle.ds_kind.specs.declared.batch.Piece.{Piece}
 use Rattle.ds_kind.specs.declared.reply.Reply.{Reply}
 use Rattle.ds_kind.specs.declared.request.Request.{Request}
 use Rattle.ds_kind.specs.declared.request.Request.TheVariants.{Get, Scan, ReverseScan, Put, ConditionalPut, InitPut, Increment, Delete, DeleteRange, EndTxn, QueryIntent, ResolveIntent, ResolveIntentRange, AdminSplit, AdminTransferLease}
-use Rattle.ds_cell.specs.Ask.{Cells, content_at}
-use Rattle.ds_cell.specs.Content.{AllAbove, Rises}
+use Rattle.ds_cell.specs.Ask.{Cells}
 use Rattle.ds_cell.specs.Replies.{body_of}
 use Rattle.ds_cell.specs.Store.{Store}
 use Rattle.ds_rule.specs.Asking.{Gives, ask_all, ask_item, made_by, and_then, and_before, at_of, committed_by}
 use Rattle.ds_rule.specs.Deliver.{Stop, stops, served, deliver_world, deliver_world_to, world_at, world_made, with_cells}
 use Rattle.ds_rule.specs.Journal.{Accepted, pairs}
 use Rattle.ds_rule.specs.Pieces.{Each, IsOneOf, IsCut}
-use Rattle.ds_rule.specs.StandsFor.{StandsFor, AllUpTo, record_number, IsAt, IsIntentOf, HasRecordOf, open_stamp}
-use Rattle.ds_rule.specs.World.{World, Range, contents, Tiles, has_id, replaced}
+use Rattle.ds_rule.specs.StandsFor.{StandsFor}
+use Rattle.ds_rule.specs.World.{World, Range, contents, has_id, replaced, look_world}
+use Rattle.ds_world.proofs.Stretches.{keeps-same}
 use Rattle.ds_law.proofs.Reading.{reads-give, read_bits}
+use Rattle.ds_law.proofs.Standing.{stands-left}
 
 -- every request only reads
 abbrev pub IsRead : Item → Type 0
@@ -110,14 +112,18 @@ reads-stay w node p read =
       | Some r ↦ λ e. at-world w p r (stops w node p r) e read
     ] refl
 
-pub looks-stay : (w : World) (p : Store) (v : World) → v.ranges ≡ w.ranges → v.records ≡ w.records → StandsFor w p → StandsFor v p
-looks-stay w p v ranges records st = record {
-  tiled = subst (Tiles []) (sym ranges) st.tiled;
-  rising = st.rising;
-  same = λ q. subst (λ rs. IsAt (open_stamp p.txn) (content_at q (contents rs)) (content_at q p.cells)) (sym ranges) (st.same q);
-  intents = λ q. subst (λ rs. IsIntentOf p.txn (content_at q (contents rs))) (sym ranges) (st.intents q);
-  recorded = subst (HasRecordOf p.txn) (sym records) st.recorded;
-  numbers = subst (Rises record_number) (sym records) st.numbers;
-  named = subst (AllAbove record_number 0) (sym records) st.named;
-  begun = subst (AllUpTo record_number p.begun) (sym records) st.begun;
-}
+-- the ranges, the descriptors, the records and the late copies are the same
+pub record Unmoved (w v : World) : Type 0 where
+  pub ranges : v.ranges ≡ w.ranges
+  pub descs : v.descs ≡ w.descs
+  pub records : v.records ≡ w.records
+  pub copies : v.copies ≡ w.copies
+
+pub unmoved : (w v : World) → v ≡ w → Unmoved w v
+unmoved w v h = record { ranges = ap (λ z. z.ranges) h; descs = ap (λ z. z.descs) h; records = ap (λ z. z.records) h; copies = ap (λ z. z.copies) h }
+
+pub look-unmoved : (w v : World) (k : List ℕ) (d : Dir) → v ≡ look_world w k d → Unmoved w v
+look-unmoved w v k d h = record { ranges = ap (λ z. z.ranges) h; descs = ap (λ z. z.descs) h; records = ap (λ z. z.records) h; copies = ap (λ z. z.copies) h }
+
+pub looks-stay : (w : World) (p : Store) (v : World) → Unmoved w v → StandsFor w p → StandsFor v p
+looks-stay w p v same st = stands-left w v p (record { keeps = keeps-same w v same.ranges same.descs st.keeps; contents = ap contents same.ranges; records = same.records; copies = same.copies }) st

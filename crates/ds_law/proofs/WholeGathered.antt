@@ -32,6 +32,7 @@ use Rattle.ds_rule.specs.Path.{Path}
 use Rattle.ds_rule.specs.Pieces.{Each, position_of}
 use Rattle.ds_law.proofs.Failing.{runs-cut}
 use Rattle.ds_law.proofs.Gathering.{IsBelowPosition, at-append, at-none, join-nothing}
+use Rattle.ds_rule.proofs.Passing.{told}
 use Rattle.ds_rule.proofs.Service.{service}
 use Rattle.ds_law.proofs.Trips.{accepted-append}
 
@@ -157,7 +158,7 @@ pub whole-gathered : (q : Asking) (a b : Stands) (replies : List Reply) (got : L
 whole-gathered q a b replies got path rise proper whole last =
     let step = Did (Send last.node last.piece (Done replies)) ∷ [] in
     let cut = runs-cut a.world b.world last.before step (subst (λ hs. Runs a.world hs b.world) last.last path.runs) in
-    let s = service cut.0 last.node last.piece replies cut.2.1.0 in
+    let s = service cut.0 last.node last.piece replies (told cut.0 (Send last.node last.piece (Done replies)) cut.2.0 cut.2.1).0 in
     let here = (each-right (IsWholeOf q) last.before step (subst (Each (IsWholeOf q)) last.last whole)).0 in
     let answers : Answers q.items replies = subst (λ is. Answers is replies) here.1 (asked-all last.piece.head last.piece.items s.range.cells s.cells s.writes replies s.gives) in
     let same : pairs q.head q.items replies ≡ got =

@@ -5,6 +5,7 @@ use Rattle.ds_base.proofs.SmallFacts.{append_nil, none_some}
 use Rattle.ds_base.specs.declared.value.Stamp.{Stamp}
 use Rattle.ds_base.specs.declared.value.TxnNo.{TxnNo}
 use Rattle.ds_rule.proofs.Eachs.{each-append, each-left, each-right}
+use Rattle.ds_rule.proofs.Passing.{told}
 use Rattle.ds_law.proofs.ReadLaw.{each-read}
 use Rattle.ds_desc.specs.declared.desc.RangeDesc.{RangeDesc}
 use Rattle.ds_kind.specs.declared.batch.Batch.{Batch}
@@ -129,7 +130,7 @@ fails-so : (q : Asking) (a b : Stands) (p : Store) (batch : Batch) (f : Failure)
 fails-so q a b p batch f got single path quiet whole idle may ready last =
     let step = Stepped (Send last.node last.piece (Failed f)) ∷ [] in
     let at = before-last q a b p got path last.before last.node last.piece (Failed f) last.last quiet whole (each-left IsIdle last.before step (subst (Each IsIdle) last.last idle)) ready.stands in
-    failing q at.world p last.node last.piece f single at.head at.items may at.stands at.does.1.0
+    failing q at.world p last.node last.piece f single at.head at.items may at.stands (told at.world (Send last.node last.piece (Failed f)) at.does.0 at.does.1).0
 
 -- what a quiet call can't be answered
 
@@ -162,7 +163,7 @@ gives-replies cells out ws rs qs h = cc
 reads-answer : (q : Asking) (a b : Stands) (p : Store) (batch : Batch) (n : ℕ) (piece : Piece) (rs : List Reply) → Each IsProperRead q.items → Ready a p batch q → Before q a b p n piece (Done rs) → Answers q p rs b.world
 reads-answer q a b p batch n piece rs reads ready at =
     let step = Stepped (Send n piece (Done rs)) ∷ [] in
-    let sv = service at.world n piece rs at.does.1.0 in
+    let sv = service at.world n piece rs (told at.world (Send n piece (Done rs)) at.does.0 at.does.1).0 in
     let read = each-read q.items reads in
     let end = course q a.floor step at.world b.world p p read at.high at.of at.does (way-here a at.world p batch q ready at.stands) in
     let range : rs ≡ map (reply_of q.head sv.range.cells) q.items =
@@ -183,7 +184,7 @@ reads-answer q a b p batch n piece rs reads ready at =
 answers : (q : Asking) (a b : Stands) (p : Store) (batch : Batch) (n : ℕ) (piece : Piece) (rs : List Reply) → q.head.txn ≡ None → MayAct p q → Ready a p batch q → Before q a b p n piece (Done rs) → Answers q p rs b.world
 answers q a b p batch n piece rs single (inr reads) ready at = reads-answer q a b p batch n piece rs reads ready at
 answers q a b p batch n piece rs single (inl none) ready at =
-    writes-answer q at.world b.world p n piece rs none single at.head at.items at.stands (service at.world n piece rs at.does.1.0) (at.does.2 ∙ at.does.1.1)
+    writes-answer q at.world b.world p n piece rs none single at.head at.items at.stands (service at.world n piece rs (told at.world (Send n piece (Done rs)) at.does.0 at.does.1).0) (at.does.2 ∙ (told at.world (Send n piece (Done rs)) at.does.0 at.does.1).1)
 
 led-ok : (a b : Stands) (p : Store) (batch : Batch) (q : Asking) (rs : List Reply) (got : List Accepted) → IsSingle batch → (path : Path q a b got) → Each IsQuiet path.added → Each (IsWholeOf q) path.added → MayAct p q → Ready a p batch q → q.head.txn ≡ None → LastServes q rs path.added → LeadsTo a b p batch (Outcome.Ok rs)
 led-ok a b p batch q rs got single path quiet whole may ready none last =

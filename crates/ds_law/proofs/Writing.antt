@@ -18,6 +18,7 @@ use Rattle.ds_rule.specs.Deliver.{holds_item, with_cells, world_made, world_at, 
 use Rattle.ds_rule.specs.Pieces.{Each}
 use Rattle.ds_rule.specs.StandsFor.{StandsFor, IsAt, IsIntentOf, open_stamp}
 use Rattle.ds_rule.specs.World.{World, Range, start_of, end_of, contents, cell_of, Inside, has_id, replaced}
+use Rattle.ds_world.proofs.Foreign.{keeps-holding}
 use Rattle.ds_law.proofs.Alike.{Both, Alike, all-alike, settle-both}
 use Rattle.ds_law.proofs.Kept.{Within, all-within}
 use Rattle.ds_law.proofs.Replacing.{given-in, given-out, given-tiles, found-fits, range-at}
@@ -70,9 +71,9 @@ plainly w p none st = record {
 -- a range's contents beside the store's
 pub range-both : (w : World) (p : Store) (f : Range → Bool) (r : Range) → find f w.ranges ≡ Some r → IsPlainly w p → StandsFor w p → Both (start_of r) (end_of r) r.cells p.cells
 range-both w p f r found plain st = record {
-  rising = (found-fits f [] w.ranges r st.tiled found).rising;
+  rising = (found-fits f [] w.ranges r st.keeps.tiled found).rising;
   rising_too = st.rising;
-  same = λ k here. range-at f [] w.ranges r k st.tiled found here ∙ plain.same k;
+  same = λ k here. range-at f [] w.ranges r k st.keeps.tiled found here ∙ plain.same k;
 }
 
 -- what the store gives
@@ -109,7 +110,7 @@ same-asked h g is js cells head items = ap (λ z. ask_all z is cells) head ∙ a
 -- the world with what a range holds now stands for the store with what it holds now
 given-stands : (w : World) (p : Store) (id : ℕ) (r : Range) (cells all : Cells) → find (has_id id) w.ranges ≡ Some r → p.txn ≡ None → IsPlainly w p → StandsFor w p → Ascends key_of cells × Inside (start_of r) (end_of r) cells → Both (start_of r) (end_of r) cells all → Outside (start_of r) (end_of r) p.cells all → ((k : List ℕ) → IsClear (content_at k all)) → StandsFor (with_cells id cells w) (record p { cells = all })
 given-stands w p id r cells all found none plain st lies both out clear = record {
-  tiled = given-tiles (has_id id) [] w.ranges r cells st.tiled found lies.0 lies.1;
+  keeps = keeps-holding (has_id id) (λ r. cells) w (given-tiles (has_id id) [] w.ranges r cells st.keeps.tiled found lies.0 lies.1) st.keeps;
   rising = both.rising_too;
   same = λ k. clear-at (open_stamp p.txn) (now k) (content_at k all) (at k) (clear k);
   intents = λ k. clear-intent p.txn (now k) (content_at k all) none (at k) (clear k);
@@ -117,6 +118,7 @@ given-stands w p id r cells all found none plain st lies both out clear = record
   numbers = st.numbers;
   named = st.named;
   begun = st.begun;
+  copies = st.copies;
 }
   where
     now : List ℕ → Content
@@ -125,8 +127,8 @@ given-stands w p id r cells all found none plain st lies both out clear = record
     at : (k : List ℕ) → content_at k (contents (replaced (has_id id) (λ r. record r { cells = cells }) w.ranges)) ≡ content_at k all
     at k =
         elim (holds (start_of r) (end_of r) k) as (λ t. holds (start_of r) (end_of r) k ≡ t → content_at k (contents (replaced (has_id id) (λ r. record r { cells = cells }) w.ranges)) ≡ content_at k all) [
-          | true ↦ λ here. given-in (has_id id) [] w.ranges r cells k st.tiled found here ∙ both.same k here
-          | false ↦ λ far. given-out (has_id id) [] w.ranges r cells k st.tiled found lies.1 far ∙ plain.same k ∙ sym (out.1 k far)
+          | true ↦ λ here. given-in (has_id id) [] w.ranges r cells k st.keeps.tiled found here ∙ both.same k here
+          | false ↦ λ far. given-out (has_id id) [] w.ranges r cells k st.keeps.tiled found lies.1 far ∙ plain.same k ∙ sym (out.1 k far)
         ] refl
 
 -- the store answers so, and the world stands for it
@@ -140,7 +142,7 @@ pub writes-answer : (q : Asking) (w v : World) (p : Store) (n : ℕ) (piece : Pi
 writes-answer q w v p n piece rs none single head items st sv is =
     let r = sv.range in
     let plain = plainly w p none st in
-    let fit = found-fits (has_id piece.range) [] w.ranges r st.tiled sv.found in
+    let fit = found-fits (has_id piece.range) [] w.ranges r st.keeps.tiled sv.found in
     let fits : list_all (holds_item r) q.items ≡ true = subst (λ z. list_all (holds_item r) z ≡ true) items (held w n piece r sv.goes) in
     let here : ask_all q.head q.items r.cells ≡ Gives sv.cells sv.writes rs = sym (same-asked piece.head q.head piece.items q.items r.cells head items) ∙ sv.gives in
     let like = alike-gives (start_of r) (end_of r) sv.cells sv.writes rs (ask_all q.head q.items p.cells) (subst (λ m. Alike (start_of r) (end_of r) m (ask_all q.head q.items p.cells)) here (all-alike r q.head q.items r.cells p.cells fits (range-both w p (has_id piece.range) r sv.found plain st))) in

@@ -7,7 +7,7 @@ use Rattle.std.proofs.lemmas.Option.{slice_get-get_or}
 use Rattle.std.proofs.lemmas.Map.Views.{any-filter_same}
 use Rattle.ds_base.proofs.SmallFacts.{and_first, and_second, and_both, not_true, or_first, or_second, or_right, none_some, some_none, some_same, le_of}
 use Rattle.ds_desc.specs.Replicas.{no_twice, are_replicas}
-use Rattle.ds_lease.specs.Turns.{IsOrder, is_among, without}
+use Rattle.ds_lease.specs.Turns.{IsOrder, is_among, without_node}
 
 -- tests on nodes
 
@@ -28,23 +28,23 @@ among_at n zero (x ∷ xs) h = subst (λ y. (y == n) || is_among n xs ≡ true) 
 among_at n (suc i) (x ∷ xs) h = or_right (x == n) (is_among n xs) (among_at n i xs h)
 
 -- nothing is taken out where the node isn't there
-without_none : (n : ℕ) (xs : List ℕ) → is_among n xs ≡ false → without n xs ≡ xs
+without_none : (n : ℕ) (xs : List ℕ) → is_among n xs ≡ false → without_node n xs ≡ xs
 without_none n [] h = refl
 without_none n (x ∷ xs) h =
-    ap (λ t. cond (not t) (x ∷ without n xs) (without n xs)) (or_first (x == n) (is_among n xs) h)
+    ap (λ t. cond (not t) (x ∷ without_node n xs) (without_node n xs)) (or_first (x == n) (is_among n xs) h)
     ∙ ap (λ ys. x ∷ ys) (without_none n xs (or_second (x == n) (is_among n xs) h))
 
 -- the node taken out of its place
-pub without_at : (n i : ℕ) (xs : List ℕ) → no_twice xs ≡ true → slice_get xs i ≡ Some n → remove xs i ≡ without n xs
+pub without_at : (n i : ℕ) (xs : List ℕ) → no_twice xs ≡ true → slice_get xs i ≡ Some n → remove xs i ≡ without_node n xs
 without_at n i [] once h = none_some n h
 without_at n zero (x ∷ xs) once h =
     let same : x ≡ n = some_same x n h in
     let alone : is_among n xs ≡ false = subst (λ y. is_among y xs ≡ false) same (not_true (is_among x xs) (and_first (not (is_among x xs)) (no_twice xs) once)) in
     let here : (x == n) ≡ true = ap (λ y. y == n) same ∙ equals_itself n in
-    sym (ap (λ t. cond (not t) (x ∷ without n xs) (without n xs)) here ∙ without_none n xs alone)
+    sym (ap (λ t. cond (not t) (x ∷ without_node n xs) (without_node n xs)) here ∙ without_none n xs alone)
 without_at n (suc i) (x ∷ xs) once h =
     let alone : is_among x xs ≡ false = not_true (is_among x xs) (and_first (not (is_among x xs)) (no_twice xs) once) in
-    elim (x == n) as (λ t. (x == n) ≡ t → x ∷ remove xs i ≡ cond (not t) (x ∷ without n xs) (without n xs)) [
+    elim (x == n) as (λ t. (x == n) ≡ t → x ∷ remove xs i ≡ cond (not t) (x ∷ without_node n xs) (without_node n xs)) [
       | true ↦ λ e. never (is_among n xs) (among_at n i xs h) (subst (λ y. is_among y xs ≡ false) (equal x n e) alone)
       | false ↦ λ e. ap (λ ys. x ∷ ys) (without_at n i xs (and_second (not (is_among x xs)) (no_twice xs) once) h)
     ] refl
@@ -64,9 +64,9 @@ first_below p (x ∷ xs) h =
       | false ↦ λ e. let rest : position_or_len p xs < length xs = first_below p xs e in omega arith
     ] h
 
-pub without_absent : (n : ℕ) (xs : List ℕ) → position (λ m. m == n) xs ≡ None → without n xs ≡ xs
+pub without_absent : (n : ℕ) (xs : List ℕ) → position (λ m. m == n) xs ≡ None → without_node n xs ≡ xs
 without_absent n xs h =
-    elim (is_among n xs) as (λ t. is_among n xs ≡ t → without n xs ≡ xs) [
+    elim (is_among n xs) as (λ t. is_among n xs ≡ t → without_node n xs ≡ xs) [
       | true ↦ λ e.
           let below : nat_lt (position_or_len (λ m. m == n) xs) (length xs) ≡ true = lt_test _ _ (first_below (λ m. m == n) xs e) in
           some_none _ (sym (ap (λ t. cond t (Some (position_or_len (λ m. m == n) xs)) None) below) ∙ h)
@@ -77,39 +77,39 @@ without_absent n xs h =
     lt_test a b h = grind (arith, nat_tests)
 
 -- the node isn't among those that are left
-gone : (n : ℕ) (xs : List ℕ) → is_among n (without n xs) ≡ false
+gone : (n : ℕ) (xs : List ℕ) → is_among n (without_node n xs) ≡ false
 gone n xs = any-filter_same (λ m. m == n) (λ m. not (m == n)) false (λ m e. ap not e) xs
 
 -- every other node still is
-still_among : (m n : ℕ) (xs : List ℕ) → (m == n) ≡ false → is_among m (without n xs) ≡ is_among m xs
+still_among : (m n : ℕ) (xs : List ℕ) → (m == n) ≡ false → is_among m (without_node n xs) ≡ is_among m xs
 still_among m n xs other =
     any-filter_same (λ k. k == m) (λ k. not (k == n)) true (λ k e. subst (λ j. not (j == n) ≡ true) (sym (equal k m e)) (ap not other)) xs
 
 -- a node that isn't there isn't among those that are left either
-not_more : (m n : ℕ) (xs : List ℕ) → is_among m xs ≡ false → is_among m (without n xs) ≡ false
+not_more : (m n : ℕ) (xs : List ℕ) → is_among m xs ≡ false → is_among m (without_node n xs) ≡ false
 not_more m n xs none =
-    elim (m == n) as (λ t. (m == n) ≡ t → is_among m (without n xs) ≡ false) [
-      | true ↦ λ e. subst (λ j. is_among j (without n xs) ≡ false) (sym (equal m n e)) (gone n xs)
+    elim (m == n) as (λ t. (m == n) ≡ t → is_among m (without_node n xs) ≡ false) [
+      | true ↦ λ e. subst (λ j. is_among j (without_node n xs) ≡ false) (sym (equal m n e)) (gone n xs)
       | false ↦ λ e. still_among m n xs e ∙ none
     ] refl
 
-once_without : (n : ℕ) (xs : List ℕ) → no_twice xs ≡ true → no_twice (without n xs) ≡ true
+once_without : (n : ℕ) (xs : List ℕ) → no_twice xs ≡ true → no_twice (without_node n xs) ≡ true
 once_without n [] once = refl
 once_without n (x ∷ xs) once =
-    let rest : no_twice (without n xs) ≡ true = once_without n xs (and_second (not (is_among x xs)) (no_twice xs) once) in
-    let alone : is_among x (without n xs) ≡ false = not_more x n xs (not_true (is_among x xs) (and_first (not (is_among x xs)) (no_twice xs) once)) in
-    elim (x == n) as (λ t. no_twice (cond (not t) (x ∷ without n xs) (without n xs)) ≡ true) [
+    let rest : no_twice (without_node n xs) ≡ true = once_without n xs (and_second (not (is_among x xs)) (no_twice xs) once) in
+    let alone : is_among x (without_node n xs) ≡ false = not_more x n xs (not_true (is_among x xs) (and_first (not (is_among x xs)) (no_twice xs) once)) in
+    elim (x == n) as (λ t. no_twice (cond (not t) (x ∷ without_node n xs) (without_node n xs)) ≡ true) [
       | true ↦ rest
-      | false ↦ and_both (not (is_among x (without n xs))) (no_twice (without n xs)) (ap not alone) rest
+      | false ↦ and_both (not (is_among x (without_node n xs))) (no_twice (without_node n xs)) (ap not alone) rest
     ]
 
-all_without : (p : ℕ → Bool) (n : ℕ) (xs : List ℕ) → list_all p xs ≡ true → list_all p (without n xs) ≡ true
+all_without : (p : ℕ → Bool) (n : ℕ) (xs : List ℕ) → list_all p xs ≡ true → list_all p (without_node n xs) ≡ true
 all_without p n [] h = refl
 all_without p n (x ∷ xs) h =
-    let rest : list_all p (without n xs) ≡ true = all_without p n xs (and_second (p x) (list_all p xs) h) in
-    elim (x == n) as (λ t. list_all p (cond (not t) (x ∷ without n xs) (without n xs)) ≡ true) [
+    let rest : list_all p (without_node n xs) ≡ true = all_without p n xs (and_second (p x) (list_all p xs) h) in
+    elim (x == n) as (λ t. list_all p (cond (not t) (x ∷ without_node n xs) (without_node n xs)) ≡ true) [
       | true ↦ rest
-      | false ↦ and_both (p x) (list_all p (without n xs)) (and_first (p x) (list_all p xs) h) rest
+      | false ↦ and_both (p x) (list_all p (without_node n xs)) (and_first (p x) (list_all p xs) h) rest
     ]
 
 -- all of a list's nodes are among it
@@ -130,38 +130,38 @@ all_themselves (x ∷ xs) =
 
 -- nodes that each stand in a list, and none twice, are at most as many as the list's
 
-all_others : (x : ℕ) (ys xs : List ℕ) → is_among x xs ≡ false → list_all (λ n. is_among n ys) xs ≡ true → list_all (λ n. is_among n (without x ys)) xs ≡ true
+all_others : (x : ℕ) (ys xs : List ℕ) → is_among x xs ≡ false → list_all (λ n. is_among n ys) xs ≡ true → list_all (λ n. is_among n (without_node x ys)) xs ≡ true
 all_others x ys [] none h = refl
 all_others x ys (n ∷ xs) none h =
     let other : (n == x) ≡ false = or_first (n == x) (is_among x xs) none in
-    and_both (is_among n (without x ys)) (list_all (λ n. is_among n (without x ys)) xs)
+    and_both (is_among n (without_node x ys)) (list_all (λ n. is_among n (without_node x ys)) xs)
     (still_among n x ys other ∙ and_first (is_among n ys) (list_all (λ n. is_among n ys) xs) h)
     (all_others x ys xs (or_second (n == x) (is_among x xs) none) (and_second (is_among n ys) (list_all (λ n. is_among n ys) xs) h))
 
-no_longer : (n : ℕ) (xs : List ℕ) → length (without n xs) ≤ length xs
+no_longer : (n : ℕ) (xs : List ℕ) → length (without_node n xs) ≤ length xs
 no_longer n [] = omega arith
 no_longer n (x ∷ xs) =
-    let rest : length (without n xs) ≤ length xs = no_longer n xs in
-    elim (x == n) as (λ t. length (cond (not t) (x ∷ without n xs) (without n xs)) ≤ suc (length xs)) [
+    let rest : length (without_node n xs) ≤ length xs = no_longer n xs in
+    elim (x == n) as (λ t. length (cond (not t) (x ∷ without_node n xs) (without_node n xs)) ≤ suc (length xs)) [
       | true ↦ omega arith
       | false ↦ omega arith
     ]
 
-shorter : (n : ℕ) (xs : List ℕ) → is_among n xs ≡ true → length (without n xs) < length xs
+shorter : (n : ℕ) (xs : List ℕ) → is_among n xs ≡ true → length (without_node n xs) < length xs
 shorter n [] h = never true refl (sym h)
 shorter n (x ∷ xs) h =
-    let most : length (without n xs) ≤ length xs = no_longer n xs in
-    elim (x == n) as (λ t. (t || is_among n xs) ≡ true → length (cond (not t) (x ∷ without n xs) (without n xs)) < suc (length xs)) [
+    let most : length (without_node n xs) ≤ length xs = no_longer n xs in
+    elim (x == n) as (λ t. (t || is_among n xs) ≡ true → length (cond (not t) (x ∷ without_node n xs) (without_node n xs)) < suc (length xs)) [
       | true ↦ λ e. omega arith
-      | false ↦ λ e. let rest : length (without n xs) < length xs = shorter n xs e in omega arith
+      | false ↦ λ e. let rest : length (without_node n xs) < length xs = shorter n xs e in omega arith
     ] h
 
 at_most : (xs ys : List ℕ) → no_twice xs ≡ true → list_all (λ n. is_among n ys) xs ≡ true → length xs ≤ length ys
 at_most [] ys once known = omega arith
 at_most (x ∷ xs) ys once known =
     let alone : is_among x xs ≡ false = not_true (is_among x xs) (and_first (not (is_among x xs)) (no_twice xs) once) in
-    let fewer : length (without x ys) < length ys = shorter x ys (and_first (is_among x ys) (list_all (λ n. is_among n ys) xs) known) in
-    let rest : length xs ≤ length (without x ys) = at_most xs (without x ys) (and_second (not (is_among x xs)) (no_twice xs) once) (all_others x ys xs alone (and_second (is_among x ys) (list_all (λ n. is_among n ys) xs) known)) in
+    let fewer : length (without_node x ys) < length ys = shorter x ys (and_first (is_among x ys) (list_all (λ n. is_among n ys) xs) known) in
+    let rest : length xs ≤ length (without_node x ys) = at_most xs (without_node x ys) (and_second (not (is_among x xs)) (no_twice xs) once) (all_others x ys xs alone (and_second (is_among x ys) (list_all (λ n. is_among n ys) xs) known)) in
     omega arith
 
 -- orders
@@ -175,17 +175,17 @@ of_replicas ns h = record {
 }
 
 -- a replica put in front
-pub with_front : (n : ℕ) (replicas waiting : List ℕ) → IsOrder (record { replicas = replicas; waiting = waiting }) → is_among n replicas ≡ true → IsOrder (record { replicas = replicas; waiting = n ∷ without n waiting })
+pub with_front : (n : ℕ) (replicas waiting : List ℕ) → IsOrder (record { replicas = replicas; waiting = waiting }) → is_among n replicas ≡ true → IsOrder (record { replicas = replicas; waiting = n ∷ without_node n waiting })
 with_front n replicas waiting o h = record {
   few = o.few;
-  once = and_both (not (is_among n (without n waiting))) (no_twice (without n waiting)) (ap not (gone n waiting)) (once_without n waiting o.once);
-  known = and_both (is_among n replicas) (list_all (λ m. is_among m replicas) (without n waiting)) h (all_without (λ m. is_among m replicas) n waiting o.known);
+  once = and_both (not (is_among n (without_node n waiting))) (no_twice (without_node n waiting)) (ap not (gone n waiting)) (once_without n waiting o.once);
+  known = and_both (is_among n replicas) (list_all (λ m. is_among m replicas) (without_node n waiting)) h (all_without (λ m. is_among m replicas) n waiting o.known);
 }
 
 -- there is room for it
-pub has_room : (n : ℕ) (replicas waiting : List ℕ) → IsOrder (record { replicas = replicas; waiting = waiting }) → is_among n replicas ≡ true → length (without n waiting) < 7
+pub has_room : (n : ℕ) (replicas waiting : List ℕ) → IsOrder (record { replicas = replicas; waiting = waiting }) → is_among n replicas ≡ true → length (without_node n waiting) < 7
 has_room n replicas waiting o h =
-    let new : IsOrder (record { replicas = replicas; waiting = n ∷ without n waiting }) = with_front n replicas waiting o h in
-    let most : suc (length (without n waiting)) ≤ length replicas = at_most (n ∷ without n waiting) replicas new.once new.known in
+    let new : IsOrder (record { replicas = replicas; waiting = n ∷ without_node n waiting }) = with_front n replicas waiting o h in
+    let most : suc (length (without_node n waiting)) ≤ length replicas = at_most (n ∷ without_node n waiting) replicas new.once new.known in
     let few : length replicas ≤ 7 = o.few in
     omega arith

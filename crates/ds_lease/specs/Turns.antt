@@ -12,8 +12,8 @@ pub record Places : Type 0 where
 abbrev pub is_among : ℕ → List ℕ → Bool
 is_among n ns = list_any (λ m. m == n) ns
 
-abbrev pub without : ℕ → List ℕ → List ℕ
-without n ns = filter (λ m. not (m == n)) ns
+abbrev pub without_node : ℕ → List ℕ → List ℕ
+without_node n ns = filter (λ m. not (m == n)) ns
 
 -- what every order keeps: at most seven replicas, and none of them waits twice
 pub record IsOrder (o : Places) : Type 0 where
@@ -24,7 +24,7 @@ pub record IsOrder (o : Places) : Type 0 where
 -- a replica put in front of those that wait, among which it then stands once; any other node
 -- changes nothing
 abbrev pub fronted : ℕ → Places → Places
-fronted n o = if is_among n o.replicas then record { replicas = o.replicas; waiting = n ∷ without n o.waiting } else o
+fronted n o = if is_among n o.replicas then record { replicas = o.replicas; waiting = n ∷ without_node n o.waiting } else o
 
 -- all replicas wait in their order, but for the leaseholder, which comes first
 abbrev pub order_of : Info → Places

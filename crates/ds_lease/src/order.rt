@@ -2,7 +2,7 @@
 ghost use Rattle.std.specs.Prelude.{◌≡◌, ◌==◌, true, IfSome};
 ghost use Rattle.std.specs.List.{position};
 ghost use Rattle.ds_desc.specs.Replicas.{AreReplicas, no_twice};
-ghost use Rattle.ds_lease.specs.Turns.{IsOrder, is_among, without, order_of, fronted, next_of, advanced};
+ghost use Rattle.ds_lease.specs.Turns.{IsOrder, is_among, without_node, order_of, fronted, next_of, advanced};
 
 use arrayvec::ArrayVec;
 use ds_desc::{Info, Nodes};
@@ -49,7 +49,7 @@ fn place_of(nodes: &[u8], node: u8) -> Option<usize>
 // Takes the node out, if it is there.
 fn take_out(nodes: &mut ArrayVec<u8, 7>, node: u8)
     requires { no_twice nodes.old.items ≡ true }
-    ensures { nodes.new.items ≡ without node nodes.old.items }
+    ensures { nodes.new.items ≡ without_node node nodes.old.items }
 {
     if let Some(place) = place_of(nodes.as_slice(), node) {
         nodes.remove(place);

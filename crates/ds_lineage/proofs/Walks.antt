@@ -1,15 +1,17 @@
 -- The walk back from place to place, and a node more.
-use Rattle.std.proofs.Common.{◌≡◌, ℕ, zero, suc, ◌+◌, ◌-◌, ◌<◌, ◌≤◌, List, [], ◌∷◌, ◌++◌, Some, None, refl, sym, ap, ◌∙◌, subst, length, take, arith, ◌⊎◌, inl, inr}
+use Rattle.std.proofs.Common.{◌≡◌, ℕ, zero, suc, ◌+◌, ◌-◌, ◌<◌, ◌≤◌, false, List, [], ◌∷◌, ◌++◌, Some, None, refl, sym, ap, ◌∙◌, subst, length, take, append_assoc, arith, ◌⊎◌, inl, inr}
 use Rattle.std.specs.Prelude.{max}
 use Rattle.std.specs.List.{slice_get}
-use Rattle.std.proofs.lemmas.List.{length-map, length-take, map_push, take-append-le, take-take, take_all}
+use Rattle.std.proofs.lemmas.List.{length-map, length-take, map_push, take-append-le, take-map, take-take, take_all}
 use Rattle.std.proofs.lemmas.Option.{slice_get_within}
-use Rattle.ds_desc.specs.Descs.{back_from, containing, greatest_id}
+use Rattle.ds_desc.specs.Descs.{back_from, containing, greatest_id, overlap}
 use Rattle.ds_desc.specs.declared.desc.RangeDesc.{RangeDesc}
-use Rattle.ds_lineage.specs.Last.{IsLastAt}
+use Rattle.ds_lineage.specs.Last.{IsLastAt, Follows}
 use Rattle.ds_lineage.specs.Nodes.{descs, ComesAfter, IsLineage, ContainsAt, IsLastBefore}
+use Rattle.ds_lineage.specs.declared.node.After.TheVariants.{One}
 use Rattle.ds_lineage.specs.declared.node.Node.{Node}
 use Rattle.ds_lineage.proofs.Lasts.{last-stands, last-cut, backwards}
+use Rattle.ds_lineage.proofs.Spans.{follows-kept}
 
 -- ---- the walk
 
@@ -32,6 +34,13 @@ one-back ds k b steps at low w =
     ∙ ap (λ n. back_from n (containing k (take (suc at) ds))) some
     ∙ ap (λ zs. slice_get zs (suc (b - (steps + 1)))) (backwards ds k at w.here.one w.here.there w.here.holds)
 
+front : {X : Type 0} (xs : List X) (n i : ℕ) → i < n → slice_get (take n xs) i ≡ slice_get xs i
+front [] zero i low = refl
+front [] (suc n) i low = refl
+front (x ∷ xs) zero i low = absurd (omega arith)
+front (x ∷ xs) (suc n) zero low = refl
+front (x ∷ xs) (suc n) (suc i) low = front xs n i (omega (arith, low))
+
 pub walk-more : (ds : List RangeDesc) (k : List ℕ) (b steps at place : ℕ) → steps < b → Walked ds k b steps at → IsLastBefore ds k at (Some place) → Walked ds k b (steps + 1) place
 walk-more ds k b steps at place low w h =
     let it : ContainsAt (take at ds) k place = last-stands (take at ds) k place h in
@@ -41,13 +50,6 @@ walk-more ds k b steps at place low w h =
       here = record { one = it.one; there = sym (front ds at place before) ∙ it.there; holds = it.holds };
       same = one-back ds k b steps at low w ∙ ap (back_from (b - (steps + 1))) (last-cut (take at ds) k place h ∙ ap (containing k) (take-take (suc place) at ds before));
     }
-  where
-    front : (ds : List RangeDesc) (n i : ℕ) → i < n → slice_get (take n ds) i ≡ slice_get ds i
-    front [] zero i low = refl
-    front [] (suc n) i low = refl
-    front (d ∷ ds) zero i low = absurd (omega arith)
-    front (d ∷ ds) (suc n) zero low = refl
-    front (d ∷ ds) (suc n) (suc i) low = front ds n i (omega arith)
 
 pub walk-none : (ds : List RangeDesc) (k : List ℕ) (b steps at : ℕ) → steps < b → Walked ds k b steps at → IsLastBefore ds k at None → back_from b (containing k ds) ≡ None
 walk-none ds k b steps at low w h = one-back ds k b steps at low w ∙ ap (back_from (b - (steps + 1))) h
@@ -62,7 +64,7 @@ walk-end ds k b steps at all w =
 
 -- ---- a node more
 
-greatest-more : (ds : List RangeDesc) (e : RangeDesc) → greatest_id (ds ++ e ∷ []) ≡ max (greatest_id ds) e.id
+pub greatest-more : (ds : List RangeDesc) (e : RangeDesc) → greatest_id (ds ++ e ∷ []) ≡ max (greatest_id ds) e.id
 greatest-more [] e = omega arith
 greatest-more (d ∷ ds) e = omega (arith, greatest-more ds e)
 
@@ -99,3 +101,31 @@ pub lineage-added : (old new : List Node) (g top : ℕ) (ds : List RangeDesc) (n
 lineage-added old new g top ds n h view after grown highest =
     let sound : IsLineage (old ++ n ∷ []) (max g n.desc.id) = lineage-more old g n h (subst (λ zs. ComesAfter zs n.desc.span n.after) (sym view) after) in
     subst (λ zs. IsLineage zs top) (sym grown) (subst (λ t. IsLineage (old ++ n ∷ []) t) (sym highest) sound)
+
+-- two nodes more, which don't overlap, after one
+pub lineage-parted : (old one new : List Node) (g middle top : ℕ) (ds : List RangeDesc) (d e : RangeDesc) (before : ℕ) → IsLineage old g → descs old ≡ ds → Follows ds d.span before → Follows ds e.span before → overlap d.span e.span ≡ false → one ≡ old ++ (record { desc = d; after = One before }) ∷ [] → new ≡ one ++ (record { desc = e; after = One before }) ∷ [] → middle ≡ max g d.id → top ≡ max middle e.id → IsLineage new top
+lineage-parted old one new g middle top ds d e before h view left right apart first second mid highest =
+    let is : descs one ≡ ds ++ d ∷ [] = ap descs first ∙ map_push (λ (x : Node). x.desc) old (record { desc = d; after = One before }) ∙ ap (λ zs. zs ++ d ∷ []) view in
+    let sound : IsLineage one middle = lineage-added old one g middle ds (record { desc = d; after = One before }) h view left first mid in
+    lineage-added one new middle top (ds ++ d ∷ []) (record { desc = e; after = One before }) sound is (follows-kept ds e.span before d apart right) second highest
+
+pub parted-view : (old one new : List Node) (ds : List RangeDesc) (d e : RangeDesc) (before : ℕ) → descs old ≡ ds → one ≡ old ++ (record { desc = d; after = One before }) ∷ [] → new ≡ one ++ (record { desc = e; after = One before }) ∷ [] → descs new ≡ ds ++ d ∷ e ∷ []
+parted-view old one new ds d e before view first second =
+    ap descs second ∙ map_push (λ (x : Node). x.desc) one (record { desc = e; after = One before })
+    ∙ ap (λ zs. zs ++ e ∷ []) (ap descs first ∙ map_push (λ (x : Node). x.desc) old (record { desc = d; after = One before }) ∙ ap (λ zs. zs ++ d ∷ []) view)
+    ∙ append_assoc ds (d ∷ []) (e ∷ [])
+
+-- the first nodes alone
+pub lineage-cut : (old new : List Node) (g top count : ℕ) → IsLineage old g → new ≡ take count old → top ≡ greatest_id (take count (descs old)) → IsLineage new top
+lineage-cut old new g top count h cut highest = record {
+  named = λ i n at.
+      let there : slice_get (take count old) i ≡ Some n = subst (λ zs. slice_get zs i ≡ Some n) cut at in
+      let low : i < length (take count old) = slice_get_within (take count old) i n there in
+      let within : i < count = omega (arith, low, length-take count old) in
+      let least : i ≤ count = omega arith in
+      subst (λ zs. ComesAfter zs n.desc.span n.after) (sym (ap (take i) short ∙ take-take i count (descs old) least)) (h.named i n (sym (front old count i within) ∙ there));
+  top = highest ∙ ap greatest_id (sym short);
+}
+  where
+    short : descs new ≡ take count (descs old)
+    short = ap descs cut ∙ sym (take-map (λ (x : Node). x.desc) count old)

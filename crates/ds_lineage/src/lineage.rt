@@ -1,7 +1,7 @@
 //! The descriptors so far.
-ghost use Rattle.std.specs.Prelude.{◌≡◌, [], ◌∷◌, ◌++◌, length, OnOk, OnErr, slice_get};
+ghost use Rattle.std.specs.Prelude.{◌≡◌, [], ◌∷◌, ◌++◌, false, length, take, OnOk, OnErr, slice_get};
 ghost use Rattle.std.specs.Option.{option_copied};
-ghost use Rattle.ds_desc.specs.Descs.{back_from, containing, greatest_id};
+ghost use Rattle.ds_desc.specs.Descs.{back_from, containing, greatest_id, overlap};
 ghost use Rattle.ds_lineage.specs.Last.{IsLastAt, Begins, Follows, Joins};
 ghost use Rattle.ds_lineage.specs.Nodes.{ComesAfter, ContainsAt, IsLastBefore};
 
@@ -107,6 +107,46 @@ impl Lineage {
         ensures err { OnErr result (self.new ≡ self.old) }
     {
         self.add(desc, After::Two { left, right })
+    }
+
+    /// Adds two descriptors that don't overlap, both after one: at each of their keys the one at the
+    /// place `before` is the last so far. So it is after a split. Want of memory changes nothing.
+    pub fn part(
+        &mut self,
+        _alloc: Global,
+        left: RangeDesc,
+        right: RangeDesc,
+        before: usize,
+    ) -> Result<(), AllocError>
+        requires left { Follows self.old left.span before }
+        requires right { Follows self.old right.span before }
+        requires apart { overlap left.span right.span ≡ false }
+        ensures ok { OnOk result (self.new ≡ self.old ++ left ∷ right ∷ []) }
+        ensures err { OnErr result (self.new ≡ self.old) }
+    {
+        self.nodes.reserve(2)?;
+        let with_left = self.greatest.max(left.id);
+        let with_both = with_left.max(right.id);
+        self.nodes.push_reserved(Node {
+            desc: left,
+            after: After::One(before),
+        });
+        self.nodes.push_reserved(Node {
+            desc: right,
+            after: After::One(before),
+        });
+        self.greatest = with_both;
+        Ok(())
+    }
+
+    /// Keeps the first descriptors alone, so many, of which the greatest id is this one: so those that
+    /// were added last are taken back.
+    pub fn take_back(&mut self, count: usize, top: u32)
+        requires { top ≡ greatest_id (take count self.old) }
+        ensures { self.new ≡ take count self.old }
+    {
+        self.nodes.truncate(count);
+        self.greatest = top;
     }
 
     /// Of the descriptors that contain the key, the one that stands `b` before the last, which is

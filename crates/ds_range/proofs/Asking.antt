@@ -1,8 +1,6 @@
 -- A request asked from key to key.
 use Rattle.std.proofs.Common.{◌≡◌, ℕ, true, false, cond, ◌&&◌, List, [], ◌∷◌, ◌++◌, Option, Some, None, refl, sym, ap, ◌∙◌, append_assoc}
-use Rattle.std.specs.BTreeMap.{is_at}
-use Rattle.std.specs.Map.{lookup}
-use Rattle.ds_base.specs.Order.{key_cmp, key_lt, key_le, holds}
+use Rattle.ds_base.specs.Order.{key_lt, key_le, holds}
 use Rattle.ds_base.specs.Ordered.{between}
 use Rattle.ds_base.specs.declared.value.Value.{Value}
 use Rattle.ds_base.proofs.OrderedFacts.{le_trans, le_of_not_lt, not_lt_of_le}
@@ -11,8 +9,8 @@ use Rattle.ds_cell.specs.declared.verdict.Verdict.{Verdict}
 use Rattle.ds_cell.specs.declared.verdict.Verdict.TheVariants.{Keep, Put, Refuse}
 use Rattle.ds_cell.specs.declared.verdict.Bit.{Bit}
 use Rattle.ds_cell.specs.declared.verdict.ActFault.{ActFault}
-use Rattle.ds_cell.specs.Content.{Content, no_content}
-use Rattle.ds_cell.specs.Ask.{Cells, key_of, content_at, Asked, Failed, Gave, one_more, ask_each, joined}
+use Rattle.ds_cell.specs.Content.{Content}
+use Rattle.ds_cell.specs.Ask.{Cells, key_of, Asked, Failed, Gave, one_more, ask_each, joined}
 use Rattle.ds_range.specs.Asks.{with_verdict, unless_refused}
 
 -- asked of one key alone

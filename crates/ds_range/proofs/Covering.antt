@@ -38,7 +38,7 @@ pub covers_within : (ks ls : List (List ℕ)) (es : Cells) → Within ks ls → 
 covers_within ks ls [] w h = tt
 covers_within ks ls (p ∷ ps) w h = (noted_within ks ls p.0 (last_of p.1.history) w h.0, covers_within ks ls ps w h.1)
 
-one_more : (k : List ℕ) (ks : List (List ℕ)) → Within ks (k ∷ ks)
+pub one_more : (k : List ℕ) (ks : List (List ℕ)) → Within ks (k ∷ ks)
 one_more k ks q h = or_right (key_eq k q) (has_key q ks) h
 
 or_moved : (a b c : Bool) → (a || (b || c)) ≡ true → (b || (c || (a || false))) ≡ true
@@ -184,7 +184,7 @@ all_keys_if o es (Err e) are = tt
 
 -- settling
 
-settled_none : (txn : ℕ) (commit : Option Stamp) (c : Content) → last_of c.history ≡ None → settled txn commit c ≡ c
+pub settled_none : (txn : ℕ) (commit : Option Stamp) (c : Content) → last_of c.history ≡ None → settled txn commit c ≡ c
 settled_none txn commit c none = ap (λ o. settled_by commit o c) (held_none (c.owner == txn))
   where
     held_none : (t : Bool) → last_of (cond t c.history []) ≡ None
@@ -195,7 +195,7 @@ settled_by_twice : (txn : ℕ) (commit : Option Stamp) (o : Option Written) (c :
 settled_by_twice txn commit None c is = ap (λ z. settled_by commit z c) is
 settled_by_twice txn commit (Some w) c is = settled_none txn commit (settled_by commit (Some w) c) refl
 
-settled_twice : (txn : ℕ) (commit : Option Stamp) (c : Content) → settled txn commit (settled txn commit c) ≡ settled txn commit c
+pub settled_twice : (txn : ℕ) (commit : Option Stamp) (c : Content) → settled txn commit (settled txn commit c) ≡ settled txn commit c
 settled_twice txn commit c = settled_by_twice txn commit (last_of (held txn c)) c refl
 
 settled_one_none : (txn : ℕ) (commit : Option Stamp) (k : List ℕ) (es : Cells) → lookup (is_at (key_cmp k)) es ≡ None → settled_one txn commit k es ≡ es
@@ -210,7 +210,7 @@ settled_one_none txn commit k (p ∷ ps) h =
 pub one_missing : (txn : ℕ) (commit : Option Stamp) (k : List ℕ) (es : Cells) → lookup (is_at (key_cmp k)) es ≡ None → es ≡ settled_one txn commit k es
 one_missing txn commit k es none = sym (settled_one_none txn commit k es none)
 
-set_settled : (txn : ℕ) (commit : Option Stamp) (k : List ℕ) (c : Content) (es : Cells) → Ascends key_of es → lookup (is_at (key_cmp k)) es ≡ Some c → set_value (is_at (key_cmp k)) es (settled txn commit c) ≡ settled_one txn commit k es
+pub set_settled : (txn : ℕ) (commit : Option Stamp) (k : List ℕ) (c : Content) (es : Cells) → Ascends key_of es → lookup (is_at (key_cmp k)) es ≡ Some c → set_value (is_at (key_cmp k)) es (settled txn commit c) ≡ settled_one txn commit k es
 set_settled txn commit k c [] asc h = none_some c h
 set_settled txn commit k c (p ∷ ps) asc h =
     elim (key_eq k p.0) as (λ t. key_eq k p.0 ≡ t → cond t (Some p.1) (lookup (is_at (key_cmp k)) ps) ≡ Some c → cond t ((p.0, settled txn commit c) ∷ ps) (p ∷ set_value (is_at (key_cmp k)) ps (settled txn commit c)) ≡ (p.0, cond t (settled txn commit p.1) p.1) ∷ settled_one txn commit k ps) [
@@ -240,7 +240,7 @@ among_more txn commit ks k (p ∷ ps) =
     )
     ∙ ap (λ qs. (p.0, cond (has_key p.0 (ks ++ k ∷ [])) (settled txn commit p.1) p.1) ∷ qs) (among_more txn commit ks k ps)
 
-none_among : (txn : ℕ) (commit : Option Stamp) (es : Cells) → settled_among txn commit [] es ≡ es
+pub none_among : (txn : ℕ) (commit : Option Stamp) (es : Cells) → settled_among txn commit [] es ≡ es
 none_among txn commit [] = refl
 none_among txn commit (p ∷ ps) = ap (λ qs. p ∷ qs) (none_among txn commit ps)
 
@@ -260,12 +260,12 @@ among_keys txn commit ks es now is = ap (map key_of) is ∙ kept es
     kept [] = refl
     kept (p ∷ ps) = ap (λ qs. p.0 ∷ qs) (kept ps)
 
-no_writes : (o : Option Written) (ks : List (List ℕ)) (k : List ℕ) → IsNoted ks k o → has_key k ks ≡ false → o ≡ None
+pub no_writes : (o : Option Written) (ks : List (List ℕ)) (k : List ℕ) → IsNoted ks k o → has_key k ks ≡ false → o ≡ None
 no_writes None ks k h out = refl
 no_writes (Some w) ks k h out = let both : true ≡ false = sym h ∙ out in cc
 
 -- settled at all keys with writes is settled everywhere
-among_all : (txn : ℕ) (commit : Option Stamp) (ks : List (List ℕ)) (es : Cells) → Covers ks es → settled_among txn commit ks es ≡ settle_cells txn commit es
+pub among_all : (txn : ℕ) (commit : Option Stamp) (ks : List (List ℕ)) (es : Cells) → Covers ks es → settled_among txn commit ks es ≡ settle_cells txn commit es
 among_all txn commit ks [] h = refl
 among_all txn commit ks (p ∷ ps) h =
     ap (λ c. (p.0, c) ∷ settled_among txn commit ks ps) (
@@ -276,7 +276,7 @@ among_all txn commit ks (p ∷ ps) h =
     )
     ∙ ap (λ qs. (p.0, settled txn commit p.1) ∷ qs) (among_all txn commit ks ps h.1)
 
-take_whole : (n : ℕ) (ks : List (List ℕ)) → length ks ≤ n → take n ks ≡ ks
+pub take_whole : (n : ℕ) (ks : List (List ℕ)) → length ks ≤ n → take n ks ≡ ks
 take_whole zero [] low = refl
 take_whole zero (k ∷ ks) low = absurd (omega arith)
 take_whole (suc n) [] low = refl
@@ -286,7 +286,7 @@ pub among_done : (txn : ℕ) (commit : Option Stamp) (ks : List (List ℕ)) (n :
 among_done txn commit ks n es now h all is =
     is ∙ ap (λ qs. settled_among txn commit qs es) (take_whole n ks all) ∙ among_all txn commit ks es h
 
-settled_noted : (ks : List (List ℕ)) (k : List ℕ) (commit : Option Stamp) (o : Option Written) (c : Content) → IsNoted ks k (last_of c.history) → IsNoted ks k (last_of (settled_by commit o c).history)
+pub settled_noted : (ks : List (List ℕ)) (k : List ℕ) (commit : Option Stamp) (o : Option Written) (c : Content) → IsNoted ks k (last_of c.history) → IsNoted ks k (last_of (settled_by commit o c).history)
 settled_noted ks k commit None c h = h
 settled_noted ks k commit (Some w) c h = tt
 

@@ -3,7 +3,6 @@ use Rattle.std.proofs.Common.{◌≡◌, ℕ, Bool, true, false, cond, List, [],
 use Rattle.std.specs.BTreeMap.{insert_entry}
 use Rattle.std.specs.Ordering.{match_ordering}
 use Rattle.std.specs.declared.cmp.Ordering.TheVariants.{Less, Equal, Greater}
-use Rattle.std.specs.FinMap.{nat_cmp-IsAntisymmetric, slice_cmp-IsAntisymmetric}
 use Rattle.ds_base.specs.Order.{key_cmp, holds}
 use Rattle.ds_base.specs.Ordered.{key_eq, AllOver, Ascends, at_key, between}
 use Rattle.ds_base.specs.declared.value.Stamp.{Stamp}

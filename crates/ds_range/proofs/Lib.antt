@@ -7,3 +7,5 @@ pub mod Covering
 pub mod Dividing
 pub mod Joining
 pub mod Neighbours
+pub mod Evaluating
+pub mod Resolving

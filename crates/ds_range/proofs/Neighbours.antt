@@ -1,5 +1,5 @@
 -- What two neighbours hold, told by the parts of each.
-use Rattle.std.proofs.Common.{◌≡◌, true, ◌++◌, sym, ap, subst}
+use Rattle.std.proofs.Common.{◌≡◌, true, ◌++◌, sym, subst}
 use Rattle.ds_base.specs.Order.{key_lt}
 use Rattle.ds_base.specs.Ordered.{Ascends}
 use Rattle.ds_base.proofs.KeyOrder.{key_lt-trans}

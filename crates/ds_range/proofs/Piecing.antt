@@ -26,7 +26,7 @@ use Rattle.ds_range.proofs.Freedom.{wrote_all}
 
 -- one item
 
-under_keys : (at : At) (ws : List (List ℕ × Option Value)) → map (λ p. p.0) ws ≡ map key_of_write (under_number at ws)
+pub under_keys : (at : At) (ws : List (List ℕ × Option Value)) → map (λ p. p.0) ws ≡ map key_of_write (under_number at ws)
 under_keys at [] = refl
 under_keys at (w ∷ ws) = ap (λ ks. w.0 ∷ ks) (under_keys at ws)
 
@@ -55,7 +55,7 @@ pub record Underway (h : Head) (rest all : List Item) (old now : Cells) (kept : 
   pub so_far : and_before writes replies (ask_all h rest now) ≡ ask_all h all old
   pub back : restored kept now ≡ old
 
-before_nothing : (m : Made) → and_before [] [] m ≡ m
+pub before_nothing : (m : Made) → and_before [] [] m ≡ m
 before_nothing (Fails f) = refl
 before_nothing (Gives cells ws rs) = refl
 
@@ -67,12 +67,12 @@ underway_first h items cells kept replies no_kept no_replies = record {
   back = ap (λ us. restored us cells) no_kept;
 }
 
-twice : (ws vs : List WriteAt) (rs qs : List Reply) (m : Made) → and_before ws rs (and_before vs qs m) ≡ and_before (ws ++ vs) (rs ++ qs) m
+pub twice : (ws vs : List WriteAt) (rs qs : List Reply) (m : Made) → and_before ws rs (and_before vs qs m) ≡ and_before (ws ++ vs) (rs ++ qs) m
 twice ws vs rs qs (Fails f) = refl
 twice ws vs rs qs (Gives cells more later) =
     ap (λ xs. Gives cells xs (rs ++ (qs ++ later))) (sym (append_assoc ws vs more)) ∙ ap (λ ys. Gives cells ((ws ++ vs) ++ more) ys) (sym (append_assoc rs qs later))
 
-map_append : {X Y : Type 0} (f : X → Y) (xs ys : List X) → map f (xs ++ ys) ≡ map f xs ++ map f ys
+pub map_append : {X Y : Type 0} (f : X → Y) (xs ys : List X) → map f (xs ++ ys) ≡ map f xs ++ map f ys
 map_append f [] ys = refl
 map_append f (x ∷ xs) ys = ap (λ zs. f x ∷ zs) (map_append f xs ys)
 
@@ -92,7 +92,7 @@ failing : (h : Head) (i : Item) (rest all : List Item) (old now : Cells) (kept :
 failing h i rest all old now kept rs f u s =
     sym u.so_far ∙ ap (λ m. and_before u.writes rs (and_then m (ask_all h rest))) s
 
-dropped : (is : List Item) (n : ℕ) (i : Item) → n < length is → i ≡ get_or is n i → drop n is ≡ i ∷ drop (n + 1) is
+pub dropped : (is : List Item) (n : ℕ) (i : Item) → n < length is → i ≡ get_or is n i → drop n is ≡ i ∷ drop (n + 1) is
 dropped is n i low at =
     let next : suc n ≡ n + 1 = omega arith in
     drop-cons is n i low ∙ ap (λ z. z ∷ drop (suc n) is) (sym at) ∙ ap (λ m. i ∷ drop m is) next
@@ -121,7 +121,7 @@ settled_keys : (txn : ℕ) (commit : Option Stamp) (ws : List WriteAt) (cells : 
 settled_keys txn commit [] cells = refl
 settled_keys txn commit (w ∷ ws) cells = settled_keys txn commit ws _
 
-finished_keys : (h : Head) (t : Option TxnNo) (ws : List WriteAt) (cells : Cells) → finished_by h t (map key_of_write ws) cells ≡ committed_by h t ws cells
+pub finished_keys : (h : Head) (t : Option TxnNo) (ws : List WriteAt) (cells : Cells) → finished_by h t (map key_of_write ws) cells ≡ committed_by h t ws cells
 finished_keys h (Some t) ws cells = refl
 finished_keys h None ws cells = settled_keys 0 (Some h.at) ws cells
 

@@ -1,5 +1,7 @@
 pub mod Asks
 pub mod Covers
+pub mod Evaluates
 pub mod Joins
 pub mod Keeps
+pub mod Resolves
 pub mod Serves

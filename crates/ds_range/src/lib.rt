@@ -5,6 +5,9 @@ mod ask;
 mod change;
 mod join;
 mod keep;
+mod lease;
+mod piece;
+mod resolve;
 mod serve;
 mod settle;
 mod shape;
@@ -14,5 +17,6 @@ mod tests;
 
 pub use ask::{Asked, Writes};
 pub use keep::Undo;
+pub use piece::{Evaluation, PieceUndo};
 pub use serve::Applied;
 pub use state::RangeState;

@@ -49,7 +49,7 @@ pub(crate) fn at_of(head: &Head, seq: Seq) -> At
 }
 
 /// The failure of the request at a position, at the key where it was refused.
-fn failure_of(i: u32, key: Key, fault: ActFault) -> Failure
+pub(crate) fn failure_of(i: u32, key: Key, fault: ActFault) -> Failure
     ensures { result ≡ failure_of i key fault }
 {
     match fault {

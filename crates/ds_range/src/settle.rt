@@ -1,9 +1,9 @@
 //! Settling a transaction's intents, at the keys where its writes can stand.
-ghost use Rattle.std.specs.Prelude.{◌≡◌, ◌∷◌, ◌++◌, OnOk, OnErr, IfOk, map, List, ℕ, not, is_some};
+ghost use Rattle.std.specs.Prelude.{◌≡◌, ◌∷◌, ◌++◌, OnOk, OnErr, IfOk, map, take, List, ℕ, is_some};
 ghost use Rattle.ds_cell.specs.Ask.{key_of, content_at};
 ghost use Rattle.ds_cell.specs.Seen.{last_of};
 ghost use Rattle.ds_rule.specs.Close.{settle_cells};
-ghost use Rattle.ds_range.specs.Covers.{Covers, CoversIf, settled_one};
+ghost use Rattle.ds_range.specs.Covers.{Covers, CoversIf, settled_one, settled_among};
 ghost use Rattle.ds_range.specs.Keeps.{restored, kept_keys, settled_at};
 ghost use Rattle.ds_range.specs.Serves.{undo_of};
 
@@ -94,7 +94,7 @@ fn noted_with(
 }
 
 /// The same; where memory is wanting they aren't known.
-fn with_kept(
+pub(crate) fn with_kept(
     alloc: Global,
     cells: &BTreeMap<Key, Cell>,
     written: Option<Keys>,
@@ -166,6 +166,24 @@ fn settle_at(
     }
 }
 
+/// Settles the transaction's intents at the keys, as far as they are there. After want of memory those
+/// at some first keys are settled.
+pub(crate) fn settle_among(
+    alloc: Global,
+    cells: &mut BTreeMap<Key, Cell>,
+    keys: &[Key],
+    txn: TxnNo,
+    commit: Option<Stamp>,
+) -> Result<(), AllocError>
+    ensures ok { OnOk result (cells.new.entries ≡ settled_among txn.0 commit keys.now cells.old.entries) }
+    ensures some { (n : ℕ) × (cells.new.entries ≡ settled_among txn.0 commit (take n keys.now) cells.old.entries) }
+{
+    'keys: for key in keys {
+        settle_at(alloc, cells, key, txn, commit)?;
+    }
+    Ok(())
+}
+
 /// Settles the transaction's intents at the keys. After want of memory some may be settled.
 pub(crate) fn settle_each(
     alloc: Global,
@@ -179,8 +197,23 @@ pub(crate) fn settle_each(
     ensures covers { OnOk result (Covers keys.now cells.new.entries) }
     ensures keys { map key_of cells.new.entries ≡ map key_of cells.old.entries }
 {
+    settle_among(alloc, cells, keys, txn, commit)
+}
+
+/// Settles the transaction's intents at the keys, and keeps what this took.
+pub(crate) fn settle_keys(
+    alloc: Global,
+    cells: &mut BTreeMap<Key, Cell>,
+    keys: &[Key],
+    txn: TxnNo,
+    commit: Option<Stamp>,
+    undo: &mut Undo,
+) -> Result<(), AllocError>
+    ensures ok { OnOk result (cells.new.entries ≡ settled_at txn.0 commit keys.now cells.old.entries) }
+    ensures back { restored undo.new cells.new.entries ≡ restored undo.old cells.old.entries }
+{
     'keys: for key in keys {
-        settle_at(alloc, cells, key, txn, commit)?;
+        change_kept(alloc, cells, key, Settle { txn, commit }, undo)?;
     }
     Ok(())
 }
@@ -197,8 +230,5 @@ pub(crate) fn settle_kept(
     ensures back { restored undo.new cells.new.entries ≡ restored undo.old cells.old.entries }
 {
     let keys = keys_kept(alloc, undo)?;
-    'keys: for key in keys.as_slice() {
-        change_kept(alloc, cells, key, Settle { txn, commit }, undo)?;
-    }
-    Ok(())
+    settle_keys(alloc, cells, keys.as_slice(), txn, commit, undo)
 }

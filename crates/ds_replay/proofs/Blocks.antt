@@ -1,5 +1,5 @@
 -- The block of a batch, read off what its sender did.
-use Rattle.std.proofs.Common.{◌≡◌, ℕ, ◌+◌, List, [], ◌∷◌, ◌++◌, map, inl, inr, refl, sym, ap, ◌∙◌, arith}
+use Rattle.std.proofs.Common.{◌≡◌, ℕ, ◌+◌, List, [], ◌∷◌, ◌++◌, map, inl, inr, refl, sym, ap, ◌∙◌, subst, arith}
 use Rattle.ds_base.specs.Counts.{Rose}
 use Rattle.ds_desc.specs.declared.meta.Looked.TheVariants as Looked
 use Rattle.ds_kind.specs.declared.reply.Reply.{Reply}
@@ -8,15 +8,16 @@ use Rattle.ds_rule.specs.declared.answer.Answer.TheVariants.{Done, Failed, Refus
 use Rattle.ds_rule.specs.declared.journal.JournalStep.{JournalStep}
 use Rattle.ds_rule.specs.declared.journal.JournalStep.TheVariants.{Look, Send}
 use Rattle.ds_rule.specs.Asking.{Asking}
-use Rattle.ds_rule.specs.Blocks.{Answers, BlockPlays}
+use Rattle.ds_rule.specs.Blocks.{BlockPlays}
 use Rattle.ds_rule.specs.Cause.{IsIdle, LastServes}
 use Rattle.ds_rule.specs.Clauses.{IsLost}
-use Rattle.ds_rule.specs.Journal.{Happening, Moved, Did, Does, Runs, accepted, accepted_by}
+use Rattle.ds_rule.specs.Journal.{Happening, Moved, Did, BothWays, Runs, accepted, accepted_by, step_world}
 use Rattle.ds_rule.specs.Law.{IsQuiet}
 use Rattle.ds_rule.specs.Path.{IsOf, LosesOnly}
 use Rattle.ds_rule.specs.Pieces.{Each}
 use Rattle.ds_rule.specs.StandsFor.{after_made}
 use Rattle.ds_rule.specs.World.{World}
+use Rattle.ds_rule.proofs.Passing.{kept_both}
 use Rattle.ds_script.specs.Journals.{accepted_in, served_by, served_in}
 
 -- nothing is lost where no count rose
@@ -28,18 +29,11 @@ pub quiet-steps : (r : Type 0) (steps : List JournalStep) → (r → ⊥) → Ea
 quiet-steps r [] never all = tt
 quiet-steps r (s ∷ ss) never all = ((λ l. never (all.0 l)), quiet-steps r ss never all.1)
 
--- a step that isn't lost is answered as the world answers
-told : (w v : World) (s : JournalStep) → (IsLost s → ⊥) → Does w s v → Answers w s v
-told w v (Look k d (Looked.Rows infos)) kept h = h
-told w v (Look k d Looked.Lost) kept h = absurd (kept tt)
-told w v (Send n p (Done rs)) kept h = h
-told w v (Send n p (Failed f)) kept h = h
-told w v (Send n p (Refused r)) kept h = h
-told w v (Send n p Lost) kept h = absurd (kept tt)
-
 pub steps-play : (q : Asking) (n : ℕ) (steps : List JournalStep) (w v : World) → Each (IsOf q) (map Did steps) → Each IsQuiet (map Did steps) → Runs w (map Did steps) v → BlockPlays q n [] w steps v
 steps-play q n [] w v of quiet r = r
-steps-play q n (s ∷ ss) w v of quiet r = (r.0, of.0, told w r.0 s quiet.0 r.1, steps-play q (n + 1) ss r.0 v of.1 quiet.1 r.2)
+steps-play q n (s ∷ ss) w v of quiet r =
+    let told = kept_both w s r.0 quiet.0 r.1 in
+    (of.0, told.0, steps-play q (n + 1) ss (step_world BothWays [] w s) v of.1 quiet.1 (subst (λ m. Runs m (map Did ss) v) told.1 r.2))
 
 pub steps-made : (steps : List JournalStep) (p : Store) → after_made (map Did steps) p ≡ p
 steps-made [] p = refl

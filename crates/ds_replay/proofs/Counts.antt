@@ -17,6 +17,7 @@ use Rattle.ds_rule.specs.Deliver.{Stop, world_made, world_at, deliver_world_to, 
 use Rattle.ds_rule.specs.Journal.{Did as Stepped, Does, Runs, Accepted}
 use Rattle.ds_rule.specs.Path.{Path}
 use Rattle.ds_rule.specs.World.{World, Range, has_id}
+use Rattle.ds_rule.proofs.Passing.{Told, told}
 use Rattle.ds_send.specs.Sent.{Ruled, Sent, SentBy, IsOpenFor, is_whole}
 use Rattle.ds_replay.specs.Asked.{AskedBy, begun_block}
 use Rattle.ds_replay.proofs.Readiness.{is-asked}
@@ -36,14 +37,17 @@ to-count w n p (Some r) = at-count w p r (stops w n p r)
 deliver-count : (w : World) (n : ℕ) (p : Piece) → (deliver_world w n p).count ≡ w.count
 deliver-count w n p = to-count w n p (find (has_id p.range) w.ranges)
 
+told-count : (w : World) (s : JournalStep) (v : World) → Told w s v → v.count ≡ w.count
+told-count w (Look k d (Looked.Rows infos)) v h = ap (λ z. z.count) h.1
+told-count w (Look k d Looked.Lost) v h = ap (λ z. z.count) h.0
+told-count w (Send n p (Done rs)) v h = ap (λ z. z.count) h.1 ∙ deliver-count w n p
+told-count w (Send n p (Failed f)) v h = ap (λ z. z.count) h.1 ∙ deliver-count w n p
+told-count w (Send n p (Refused r)) v h = ap (λ z. z.count) h.1 ∙ deliver-count w n p
+told-count w (Send n p Lost) v (inl h) = ap (λ z. z.count) h
+told-count w (Send n p Lost) v (inr h) = ap (λ z. z.count) h ∙ deliver-count w n p
+
 does-count : (w : World) (s : JournalStep) (v : World) → Does w s v → v.count ≡ w.count
-does-count w (Look k d (Looked.Rows infos)) v h = ap (λ z. z.count) h.1
-does-count w (Look k d Looked.Lost) v h = ap (λ z. z.count) h.0
-does-count w (Send n p (Done rs)) v h = ap (λ z. z.count) h.1 ∙ deliver-count w n p
-does-count w (Send n p (Failed f)) v h = ap (λ z. z.count) h.1 ∙ deliver-count w n p
-does-count w (Send n p (Refused r)) v h = ap (λ z. z.count) h.1 ∙ deliver-count w n p
-does-count w (Send n p Lost) v (inl h) = ap (λ z. z.count) h
-does-count w (Send n p Lost) v (inr h) = ap (λ z. z.count) h ∙ deliver-count w n p
+does-count w s v h = told-count w s v (told w s v h)
 
 runs-count : (steps : List JournalStep) (w v : World) → Runs w (map Stepped steps) v → v.count ≡ w.count
 runs-count [] w v h = ap (λ z. z.count) h

@@ -1,11 +1,10 @@
 -- The ranges tile the keys after each delivery.
-use Rattle.std.proofs.Common.{◌≡◌, ℕ, Bool, true, false, not, cond, List, [], ◌∷◌, ◌++◌, map, Option, Some, None, refl, sym, ap, subst}
-use Rattle.std.specs.List.{find, list_any, list_all}
+use Rattle.std.proofs.Common.{◌≡◌, ℕ, Bool, true, false, cond, List, [], ◌∷◌, ◌++◌, map, Option, Some, None, refl, ap, subst}
+use Rattle.std.specs.List.{find, list_all}
 use Rattle.ds_base.specs.declared.value.Stamp.{Stamp}
 use Rattle.ds_base.specs.declared.value.TxnNo.{TxnNo}
 use Rattle.ds_base.proofs.SmallFacts.{and_first, and_second}
 use Rattle.ds_rule.proofs.Service.{held}
-use Rattle.ds_desc.specs.declared.refusal.Refusal.TheVariants.{NotFound, NotLease, Mismatch}
 use Rattle.ds_kind.specs.Request.{span_of}
 use Rattle.ds_kind.specs.declared.batch.Head.{Head}
 use Rattle.ds_kind.specs.declared.batch.Item.{Item}
@@ -18,7 +17,7 @@ use Rattle.ds_cell.specs.Requests.{ask_request}
 use Rattle.ds_cell.specs.Store.{WriteAt, put_cell, write_all, under_number, settle_all}
 use Rattle.ds_rule.specs.Asking.{Made, Gives, Fails, at_of, made_by, and_before, and_then, ask_item, ask_all, committed_by, finished}
 use Rattle.ds_rule.specs.World.{World, Range, end_of, Fits, Tiles, has_id, holds_key, replaced}
-use Rattle.ds_rule.specs.Deliver.{holds_item, mismatch_rows, status_stops, Stop, Turned, ends, stops, served, world_made, world_at, deliver_world_to, deliver_world}
+use Rattle.ds_rule.specs.Deliver.{holds_item, Stop, stops, served, world_made, world_at, deliver_world_to, deliver_world}
 use Rattle.ds_rule.proofs.Tiling.{fits-put}
 use Rattle.ds_rule.proofs.Writes.{Puts, AllIn, puts_in_span, held_key}
 

@@ -75,7 +75,7 @@ abbrev pub high : Range
 high = record { info = info 2 2 key_g bound; cells = (key_m, holding (version 4 9 ∷ [])) ∷ [] }
 
 abbrev pub world : World
-world = record { ranges = low ∷ high ∷ []; descs = []; armed = []; records = []; copies = []; count = 0 }
+world = record { ranges = low ∷ high ∷ []; descs = low.info.desc ∷ high.info.desc ∷ []; armed = []; records = []; copies = []; count = 0 }
 
 abbrev pub txn_record : ℕ → RecordStatus → TxnRecord
 txn_record n s = record { txn = record { 0 = n }; stamp = record { 0 = 10 }; epoch = 0; status = s }

@@ -8,7 +8,7 @@ use Rattle.ds_rule.specs.declared.event.Event.TheVariants.{Abort}
 use Rattle.ds_rule.specs.declared.journal.JournalStep.TheVariants.{Look, Send}
 use Rattle.ds_rule.specs.Asking.{Asking}
 use Rattle.ds_rule.specs.Clauses.{Stands}
-use Rattle.ds_rule.specs.Journal.{Happening, Moved, Did, Accepted}
+use Rattle.ds_rule.specs.Journal.{Happening, Moved, Did, BothWays, Accepted}
 use Rattle.ds_rule.specs.Path.{AreRouted, GoesTo, IsHigh, IsOf, IsStepOf, LosesOnly, Path, holds_span, route_by}
 use Rattle.ds_rule.specs.Steady.{Steady}
 use Rattle.ds_rule.proofs.Examples.{key_a, key_m, low, high, world, get, scan, alone_at, piece, asked_at, got, wrote, differs, never}
@@ -112,7 +112,7 @@ a_lookup_and_a_get_are_a_path = record {
   routed = a_send_after_its_lookup_is_routed;
   losses = ((λ h. absurd h), ((λ h. absurd h), tt));
   grown = refl;
-  runs = (world, (refl, refl, refl), (world, (refl, refl), refl));
+  runs = (world, (BothWays, ((refl, refl), refl)), (world, (BothWays, (refl, refl)), refl));
   floor = refl;
   gives = refl;
 }

@@ -1,12 +1,11 @@
 -- Worked examples of what happens to ranges, some that hold and some that must not: splits, merges, leases, moves and old
 -- descriptors.
-use Rattle.std.proofs.Common.{◌≡◌, ℕ, true, false, List, [], ◌∷◌, Option, Some, None, refl, ap, arith}
-use Rattle.std.specs.List.{list_any, list_all}
+use Rattle.std.proofs.Common.{◌≡◌, ℕ, false, List, [], ◌∷◌, Option, Some, None, refl, ap, arith}
+use Rattle.std.specs.List.{list_all}
 use Rattle.ds_base.specs.Order.{bound}
 use Rattle.ds_base.specs.declared.value.Dir.TheVariants.{Forward}
 use Rattle.ds_desc.specs.Descs.{greatest_id}
 use Rattle.ds_desc.specs.declared.desc.Info.{Info}
-use Rattle.ds_desc.specs.declared.desc.Lease.{Lease}
 use Rattle.ds_desc.specs.declared.desc.RangeDesc.{RangeDesc}
 use Rattle.ds_cell.specs.Ask.{Cell}
 use Rattle.ds_rule.specs.Keeping.{IsNewest}

@@ -30,8 +30,9 @@ use Rattle.ds_rule.specs.Clauses.{Stands}
 use Rattle.ds_rule.specs.Law.{LeadsTo, IsGiven, IsProperRead, IsQuiet, MayAct, PlainCause}
 use Rattle.ds_rule.specs.Plain.{Answered, IsPlainOk, after_event, asker_in}
 use Rattle.ds_rule.specs.StandsFor.{Ready, IsAt, HasRecordOf, IsIntentOf, StandsFor}
-use Rattle.ds_rule.proofs.Examples.{number_in, key_a, key_b, key_g, key_m, key_z, version, write, holding, world, txn_record, get, put, scan, scan_back, alone_at, batch_at, asked_at, saying, got, row, wrote, two_ranges_tile, differs, never}
+use Rattle.ds_rule.proofs.Examples.{number_in, key_a, key_b, key_g, key_m, key_z, version, write, holding, world, txn_record, get, put, scan, scan_back, alone_at, batch_at, asked_at, saying, got, row, wrote, differs, never}
 use Rattle.ds_rule.proofs.ExamplesOfJournals.{look, get_gave, wire}
+use Rattle.ds_rule.proofs.ExamplesOfMoves.{late, two_ranges_are_kept, with_late}
 
 -- ---- replies gathered
 
@@ -243,7 +244,7 @@ at_each P here there nowhere k = go (key_eq key_a k) (key_eq key_m k)
 
 two_ranges_stand_for_one_store : StandsFor world store
 two_ranges_stand_for_one_store = record {
-  tiled = two_ranges_tile;
+  keeps = two_ranges_are_kept;
   rising = ((refl, tt), (tt, tt));
   same = at_each (λ c. IsAt 0 c c) (nothing_waits (version 4 7 ∷ [])) (nothing_waits (version 4 9 ∷ [])) (nothing_waits []);
   intents = at_each (λ c. c.history ≡ []) refl refl refl;
@@ -251,7 +252,11 @@ two_ranges_stand_for_one_store = record {
   numbers = tt;
   named = tt;
   begun = tt;
+  copies = refl;
 }
+
+no_copy_is_under_way : StandsFor (with_late (late 3 1)) store → ⊥
+no_copy_is_under_way h = differs h.copies (λ ls. length ls == 1) refl refl
 
 a_world_doesnt_stand_for_a_store_without_its_versions : StandsFor world empty_store → ⊥
 a_world_doesnt_stand_for_a_store_without_its_versions h = let same : IsAt 0 (holding (version 4 7 ∷ [])) no_content = h.same key_a in differs same.versions (λ vs. length vs == 0) refl refl

@@ -2,12 +2,15 @@ pub mod Delivered
 pub mod Eachs
 pub mod Examples
 pub mod ExamplesOfJournals
+pub mod ExamplesOfLimits
+pub mod ExamplesOfMoves
 pub mod ExamplesOfPaths
 pub mod ExamplesOfRecords
 pub mod ExamplesOfShifts
 pub mod ExamplesOfStores
 pub mod Lasts
 pub mod Numbered
+pub mod Passing
 pub mod Puts
 pub mod Routes
 pub mod Service

@@ -1,13 +1,13 @@
 -- Changing one key's content, in one range and in all contents.
-use Rattle.std.proofs.Common.{◌≡◌, ℕ, true, false, cond, ◌&&◌, List, [], ◌∷◌, ◌++◌, Some, None, refl, sym, ap, ◌∙◌, subst}
-use Rattle.std.specs.Ordering.{is_lt, is_eq, match_ordering, ordering_reverse}
+use Rattle.std.proofs.Common.{◌≡◌, ℕ, true, false, cond, ◌&&◌, List, [], ◌∷◌, ◌++◌, Some, refl, sym, ap, ◌∙◌, subst}
+use Rattle.std.specs.Ordering.{is_lt, match_ordering, ordering_reverse}
 use Rattle.std.specs.declared.cmp.Ordering.{Ordering}
 use Rattle.std.specs.declared.cmp.Ordering.TheVariants.{Less, Equal, Greater}
 use Rattle.std.specs.BTreeMap.{insert_entry}
 use Rattle.std.proofs.lemmas.Cmp.{nat_list_cmp_total}
 use Rattle.ds_base.specs.Order.{key_cmp, key_lt, key_le, bound}
 use Rattle.ds_base.specs.Ordered.{key_eq, AllOver, AllBelow, Ascends, at_key}
-use Rattle.ds_base.proofs.OrderedFacts.{le_of_not_lt, eq_same, at-none, gt_not_eq, lt_not_eq, not_lt_of_le}
+use Rattle.ds_base.proofs.OrderedFacts.{le_of_not_lt, at-none, lt_not_eq, not_lt_of_le}
 use Rattle.ds_cell.specs.Content.{Content}
 use Rattle.ds_cell.specs.Ask.{Cells, key_of, content_of, content_at}
 use Rattle.ds_cell.specs.Store.{put_cell}

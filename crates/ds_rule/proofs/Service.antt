@@ -1,5 +1,5 @@
 -- What a delivered piece was served.
-use Rattle.std.proofs.Common.{◌≡◌, ℕ, Bool, true, false, cond, not, ◌&&◌, ◌==◌, List, [], ◌∷◌, Option, Some, None, refl, sym, ap, ◌∙◌, subst}
+use Rattle.std.proofs.Common.{◌≡◌, ℕ, Bool, true, false, cond, not, ◌==◌, List, Option, Some, None, refl, sym}
 use Rattle.std.specs.List.{find, list_all, list_any}
 use Rattle.ds_desc.specs.declared.refusal.Refusal.TheVariants.{NotFound, NotLease, Mismatch}
 use Rattle.ds_kind.specs.declared.batch.Piece.{Piece}
@@ -7,7 +7,7 @@ use Rattle.ds_kind.specs.declared.reply.Failure.{Failure}
 use Rattle.ds_kind.specs.declared.reply.Reply.{Reply}
 use Rattle.ds_cell.specs.Ask.{Cells}
 use Rattle.ds_cell.specs.Store.{WriteAt}
-use Rattle.ds_rule.specs.declared.answer.Answer.TheVariants.{Done, Failed, Refused, Lost}
+use Rattle.ds_rule.specs.declared.answer.Answer.TheVariants.{Done}
 use Rattle.ds_rule.specs.Asking.{Made, Gives, Fails, txn_of}
 use Rattle.ds_rule.specs.Deliver.{answer_made, answer_at, stops, Stop, Turned, Ended, stop_answer, served, deliver_answer, deliver_answer_to, holds_item, mismatch_rows, ends, status_stops}
 use Rattle.ds_rule.specs.World.{World, Range, has_id}

@@ -1,18 +1,13 @@
 -- The ranges tile the keys, at first and after each write.
-use Rattle.std.proofs.Common.{◌≡◌, ℕ, ◌+◌, true, false, cond, List, [], ◌∷◌, refl, ap, ◌∙◌, subst}
-use Rattle.std.specs.Ordering.{is_lt, ordering_reverse}
-use Rattle.std.specs.declared.cmp.Ordering.{Ordering}
+use Rattle.std.proofs.Common.{◌≡◌, ℕ, ◌+◌, true, false, cond, List, [], ◌∷◌, refl, subst}
 use Rattle.std.specs.declared.cmp.Ordering.TheVariants.{Less, Equal, Greater}
 use Rattle.std.specs.Ordering.{match_ordering}
 use Rattle.std.specs.BTreeMap.{insert_entry}
-use Rattle.std.proofs.lemmas.Cmp.{nat_list_cmp_total}
 use Rattle.ds_base.specs.Order.{key_cmp, key_lt, holds}
-use Rattle.ds_base.specs.Ordered.{AllOver, Ascends}
 use Rattle.ds_base.proofs.SmallFacts.{and_first, and_second}
-use Rattle.ds_base.proofs.OrderedFacts.{over-below}
 use Rattle.ds_rule.specs.declared.cluster.ClusterRange.{ClusterRange}
 use Rattle.ds_cell.specs.Content.{Content}
-use Rattle.ds_cell.specs.Ask.{Cell, key_of}
+use Rattle.ds_cell.specs.Ask.{Cell}
 use Rattle.ds_rule.specs.World.{Range, end_of, Inside, Fits, Tiles, holds_key, replaced}
 use Rattle.ds_rule.specs.Begin.{next_start, ranges_of, rises}
 use Rattle.ds_cell.specs.Store.{put_cell}

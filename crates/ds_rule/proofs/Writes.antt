@@ -1,5 +1,5 @@
 -- Where the writes of a request stand.
-use Rattle.std.proofs.Common.{◌≡◌, ℕ, Bool, true, false, cond, ◌&&◌, List, [], ◌∷◌, Option, refl, subst}
+use Rattle.std.proofs.Common.{◌≡◌, ℕ, true, false, cond, List, [], ◌∷◌, Option, refl, subst}
 use Rattle.ds_base.specs.Order.{key_lt, key_le, holds, after}
 use Rattle.ds_base.specs.Ordered.{between}
 use Rattle.ds_base.specs.declared.value.Value.{Value}

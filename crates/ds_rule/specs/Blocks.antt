@@ -1,17 +1,14 @@
 -- The block of a batch: its steps, and what happens beside them.
-use Rattle.std.specs.Prelude.{◌≡◌, ℕ, ◌+◌, true, List, [], ◌∷◌, map, filter, nat_le}
-use Rattle.ds_desc.specs.Contains.{lies_ahead}
-use Rattle.ds_desc.specs.declared.meta.Looked.TheVariants as Looked
-use Rattle.ds_rule.specs.declared.answer.Answer.TheVariants.{Done, Failed, Refused, Lost}
+use Rattle.std.specs.Prelude.{◌≡◌, ℕ, ◌+◌, Bool, true, false, ◌&&◌, ◌==◌, List, [], ◌∷◌, ◌++◌, filter, find, nat_le, Option, Some, None, if◌then◌else◌}
 use Rattle.ds_rule.specs.declared.event.Event.{Event}
+use Rattle.ds_rule.specs.declared.event.Event.TheVariants.{LoseRequest, LoseReply, Copy}
 use Rattle.ds_rule.specs.declared.event.Timed.{Timed}
 use Rattle.ds_rule.specs.declared.journal.JournalStep.{JournalStep}
-use Rattle.ds_rule.specs.declared.journal.JournalStep.TheVariants.{Look, Send}
 use Rattle.ds_rule.specs.Asking.{Asking}
-use Rattle.ds_rule.specs.Deliver.{deliver_answer, deliver_world}
+use Rattle.ds_rule.specs.Journal.{Passage, BothWays, RequestLost, ReplyLost, IsAnswered, step_world}
 use Rattle.ds_rule.specs.Moves.{moved}
 use Rattle.ds_rule.specs.Path.{IsStepOf}
-use Rattle.ds_rule.specs.World.{World, look_rows, look_world}
+use Rattle.ds_rule.specs.World.{World}
 
 -- the events that are due before step n, and those that come later
 abbrev pub due : ℕ → List Timed → List Timed
@@ -25,19 +22,61 @@ abbrev pub all_moved : World → List Timed → World
 all_moved w [] = w
 all_moved w (t ∷ ts) = all_moved (moved w t.event) ts
 
--- the step is answered as the world answers, and this is the world afterwards; a lookup is of a key with some key of the
--- key space ahead of it in its direction; that a step is lost isn't built yet
-abbrev pub Answers : World → JournalStep → World → Type 0
-Answers w (Look k d (Looked.Rows infos)) v = (infos ≡ look_rows w k d) × (v ≡ look_world w k d) × (lies_ahead d k ≡ true)
-Answers w (Look k d Looked.Lost) v = ⊥
-Answers w (Send n p (Done rs)) v = (Done rs ≡ deliver_answer w n p) × (v ≡ deliver_world w n p)
-Answers w (Send n p (Failed f)) v = (Failed f ≡ deliver_answer w n p) × (v ≡ deliver_world w n p)
-Answers w (Send n p (Refused r)) v = (Refused r ≡ deliver_answer w n p) × (v ≡ deliver_world w n p)
-Answers w (Send n p Lost) v = ⊥
+-- ---- what names a step
 
--- from step n on: before each step the events that are due, then the step, which is of the batch; and at the block's
--- end the events that are left
+abbrev pub is_loss : Event → Bool
+is_loss (LoseRequest c) = true
+is_loss (LoseReply c) = true
+is_loss e = false
+
+abbrev pub names : ℕ → Timed → Bool
+names n t = t.at == n
+
+-- the first loss that names step n
+abbrev pub loss_at : ℕ → List Timed → Option Timed
+loss_at n ts = find (λ t. names n t && is_loss t.event) ts
+
+abbrev pub passage_by : Event → Passage
+passage_by (LoseRequest c) = RequestLost
+passage_by (LoseReply c) = ReplyLost
+passage_by e = BothWays
+
+abbrev pub passage_of : Option Timed → Passage
+passage_of None = BothWays
+passage_of (Some t) = passage_by t.event
+
+-- how step n fares
+abbrev pub passage_at : ℕ → List Timed → Passage
+passage_at n ts = passage_of (loss_at n ts)
+
+-- the number that a loss gives a copy
+abbrev pub lost_copy : Event → List ℕ
+lost_copy (LoseRequest (Some c)) = c ∷ []
+lost_copy (LoseReply (Some c)) = c ∷ []
+lost_copy e = []
+
+abbrev pub lost_copies : Option Timed → List ℕ
+lost_copies None = []
+lost_copies (Some t) = lost_copy t.event
+
+abbrev pub more_copies : Event → List ℕ
+more_copies (Copy c) = c ∷ []
+more_copies e = []
+
+abbrev pub all_copies : ℕ → List Timed → List ℕ
+all_copies n [] = []
+all_copies n (t ∷ ts) = (if names n t then more_copies t.event else []) ++ all_copies n ts
+
+-- the numbers of the copies of step n that stay under way: that of the loss that applies, and those of copies
+abbrev pub copies_at : ℕ → List Timed → List ℕ
+copies_at n ts = lost_copies (loss_at n ts) ++ all_copies n ts
+
+-- ---- a block
+
+-- from step n on: before each step the events that are due, then the step, which is of the batch, and is answered as the world
+-- answers it where it fares as the events say; and at the block's end the events that are left
 abbrev pub BlockPlays : Asking → ℕ → List Timed → World → List JournalStep → World → Type 0
 BlockPlays q n ts w [] v = v ≡ all_moved w ts
 BlockPlays q n ts w (s ∷ ss) v =
-    (m : World) × IsStepOf q s × Answers (all_moved w (due n ts)) s m × BlockPlays q (n + 1) (later n ts) m ss v
+    IsStepOf q s × IsAnswered (passage_at n ts) (all_moved w (due n ts)) s
+    × BlockPlays q (n + 1) (later n ts) (step_world (passage_at n ts) (copies_at n ts) (all_moved w (due n ts)) s) ss v

@@ -9,11 +9,9 @@ use Rattle.ds_kind.specs.WholeSpan.{whole_span}
 use Rattle.ds_kind.specs.declared.batch.Item.{Item}
 use Rattle.ds_kind.specs.declared.batch.Piece.{Piece}
 use Rattle.ds_kind.specs.declared.reply.Failure.{Failure}
-use Rattle.ds_kind.specs.declared.reply.Failure.TheVariants as Failure
 use Rattle.ds_kind.specs.declared.reply.Reply.{Reply}
 use Rattle.ds_rule.specs.declared.answer.Answer.TheVariants.{Done, Failed, Refused, Lost}
 use Rattle.ds_rule.specs.declared.answer.Outcome.{Outcome}
-use Rattle.ds_rule.specs.declared.answer.Outcome.TheVariants as Outcome
 use Rattle.ds_rule.specs.declared.journal.JournalStep.{JournalStep}
 use Rattle.ds_rule.specs.declared.journal.JournalStep.TheVariants.{Look, Send}
 use Rattle.ds_rule.specs.Asking.{Asking}

@@ -1,20 +1,18 @@
 -- What a wire stands for, and what one call adds to it.
-use Rattle.std.specs.Prelude.{◌≡◌, ℕ, ◌<◌, ◌≤◌, ◌%◌, Bool, true, false, List, [], ◌∷◌, ◌++◌, map, Result, Ok, Err, refl}
+use Rattle.std.specs.Prelude.{◌≡◌, ℕ, ◌≤◌, ◌%◌, List, [], ◌∷◌, ◌++◌, map, Result, Ok, Err, refl}
 use Rattle.std.specs.declared.alloc.AllocError.{AllocError}
-use Rattle.ds_base.specs.Order.{key_lt, bound}
 use Rattle.ds_base.specs.declared.value.Dir.{Dir}
 use Rattle.ds_base.specs.Counts.{Rose}
 use Rattle.ds_desc.specs.declared.meta.Looked.{Looked}
-use Rattle.ds_desc.specs.declared.meta.Looked.TheVariants as Looked
 use Rattle.ds_kind.specs.declared.batch.Piece.{Piece}
 use Rattle.ds_rule.specs.declared.answer.Answer.{Answer}
 use Rattle.ds_rule.specs.declared.answer.Answer.TheVariants.{Done, Failed, Refused, Lost}
 use Rattle.ds_rule.specs.declared.journal.JournalStep.{JournalStep}
 use Rattle.ds_rule.specs.declared.journal.JournalStep.TheVariants.{Look, Send}
 use Rattle.ds_rule.specs.declared.event.Event.{Event}
-use Rattle.ds_rule.specs.declared.event.Event.TheVariants.{Write}
 use Rattle.ds_rule.specs.World.{World}
 use Rattle.ds_rule.specs.Journal.{Happening, Moved, Did, Runs}
+use Rattle.ds_rule.specs.Moves.{IsMove}
 use Rattle.ds_rule.specs.Pieces.{Each}
 
 -- what a wire stands for: the world as it is, all that happened so far, the floor that foreign writes stay above,
@@ -26,11 +24,6 @@ pub record Stands : Type 0 where
   pub refused : ℕ
   pub lost : ℕ
   pub ahead : List ℕ
-
--- a foreign write is at a key, and lies above the floor
-abbrev pub IsAbove : ℕ → Event → Type 0
-IsAbove floor (Write k s v) = (floor < s.0) × (key_lt k bound ≡ true)
-IsAbove floor e = Unit {0}
 
 -- the step's answer is a refusal
 abbrev pub IsRefused : JournalStep → Type 0
@@ -52,10 +45,10 @@ IsLost (Look k d (Looked.Rows is)) = ⊥
 abbrev pub and_step : List Event → JournalStep → List Happening
 and_step moves s = map Moved moves ++ Did s ∷ []
 
--- a call that makes a step: moves of the world above the floor, and then the step with its answer
+-- a call that makes a step: moves that a wire may make, and then the step with its answer
 pub record Steps (a b : Stands) (s : JournalStep) : Type 0 where
   pub moves : List Event
-  pub above : Each (IsAbove a.floor) moves
+  pub above : Each (IsMove a.floor) moves
   pub grown : b.past ≡ a.past ++ and_step moves s
   pub runs : Runs a.world (and_step moves s) b.world
   pub floor : b.floor ≡ a.floor
@@ -68,7 +61,7 @@ pub record Steps (a b : Stands) (s : JournalStep) : Type 0 where
 -- a call that wanted memory: some of its moves, and no step
 pub record Stays (a b : Stands) : Type 0 where
   pub moves : List Event
-  pub above : Each (IsAbove a.floor) moves
+  pub above : Each (IsMove a.floor) moves
   pub grown : b.past ≡ a.past ++ map Moved moves
   pub runs : Runs a.world (map Moved moves) b.world
   pub floor : b.floor ≡ a.floor

@@ -1,5 +1,5 @@
 -- How replies are made of what the pieces were answered.
-use Rattle.std.specs.Prelude.{◌≡◌, ℕ, Bool, true, List, [], ◌∷◌, Option, None}
+use Rattle.std.specs.Prelude.{◌≡◌, ℕ, Bool, true, List, [], ◌∷◌, None}
 use Rattle.ds_base.specs.Order.{key_lt}
 use Rattle.ds_kind.specs.Bodies.{put_in_order, in_order, stands_at, those_at, goes_down, join_bodies}
 use Rattle.ds_kind.specs.Request.{cut_to, span_of}

@@ -1,8 +1,8 @@
 -- What happened, one after another: moves of the world, and steps of a sender.
-use Rattle.std.specs.Prelude.{◌≡◌, ℕ, ◌+◌, ◌⊎◌, true, List, [], ◌∷◌, ◌++◌}
+use Rattle.std.specs.Prelude.{◌≡◌, ℕ, ◌+◌, true, List, [], ◌∷◌, ◌++◌, Option, Some, None}
+use Rattle.ds_base.specs.declared.value.TxnNo.{TxnNo}
 use Rattle.ds_desc.specs.Contains.{lies_ahead}
 use Rattle.ds_desc.specs.declared.meta.Looked.{Looked}
-use Rattle.ds_desc.specs.declared.meta.Looked.TheVariants as Looked
 use Rattle.ds_kind.specs.declared.batch.Item.{Item}
 use Rattle.ds_kind.specs.declared.batch.Head.{Head}
 use Rattle.ds_kind.specs.declared.batch.Piece.{Piece}
@@ -20,15 +20,61 @@ pub data Happening : Type 0 where
   Moved : Event → Happening
   Did : JournalStep → Happening
 
--- the world may answer the step so, and be so afterwards; a lookup is of a key with some key of the key space ahead of it
--- in its direction, and of a lost send nobody knows whether it was delivered
+-- ---- how a step fares
+
+-- how it fares on its way: it comes there and its answer back, it is lost before it comes there, or its answer is
+pub data Passage : Type 0 where
+  BothWays : Passage
+  RequestLost : Passage
+  ReplyLost : Passage
+
+-- a copy of the piece stays under way, where it is of a transaction
+abbrev pub one_copy : Option TxnNo → ℕ → Piece → ℕ → World → World
+one_copy None node p c w = w
+one_copy (Some t) node p c w = record w { copies = w.copies ++ record { number = c; node = node; piece = p } ∷ [] }
+
+abbrev pub with_copies : ℕ → Piece → List ℕ → World → World
+with_copies node p [] w = w
+with_copies node p (c ∷ cs) w = with_copies node p cs (one_copy p.head.txn node p c w)
+
+-- what was refused leaves no copy
+abbrev pub unless_refused : Answer → List ℕ → List ℕ
+unless_refused (Refused r) cs = []
+unless_refused (Done rs) cs = cs
+unless_refused (Failed f) cs = cs
+unless_refused Lost cs = cs
+
+-- the world after a step that fared so, where copies of these numbers stay; of a lookup no copy stays
+abbrev pub step_world : Passage → List ℕ → World → JournalStep → World
+step_world BothWays cs w (Look k d l) = look_world w k d
+step_world RequestLost cs w (Look k d l) = w
+step_world ReplyLost cs w (Look k d l) = w
+step_world BothWays cs w (Send n p a) = with_copies n p (unless_refused a cs) (deliver_world w n p)
+step_world RequestLost cs w (Send n p a) = with_copies n p cs w
+step_world ReplyLost cs w (Send n p a) = with_copies n p cs (deliver_world w n p)
+
+-- the answer is the one that the world gives, or lost with the step; and some key of the key space lies ahead of the key that
+-- is looked up, in its direction
+abbrev pub IsAnswered : Passage → World → JournalStep → Type 0
+IsAnswered BothWays w (Look k d (Looked.Rows infos)) = (infos ≡ look_rows w k d) × (lies_ahead d k ≡ true)
+IsAnswered BothWays w (Look k d Looked.Lost) = ⊥
+IsAnswered RequestLost w (Look k d (Looked.Rows infos)) = ⊥
+IsAnswered RequestLost w (Look k d Looked.Lost) = lies_ahead d k ≡ true
+IsAnswered ReplyLost w (Look k d (Looked.Rows infos)) = ⊥
+IsAnswered ReplyLost w (Look k d Looked.Lost) = lies_ahead d k ≡ true
+IsAnswered BothWays w (Send n p a) = a ≡ deliver_answer w n p
+IsAnswered RequestLost w (Send n p a) = a ≡ Lost
+IsAnswered ReplyLost w (Send n p a) = a ≡ Lost
+
+-- a step that fares so leads from the one world to the other, where copies of these numbers stay
+abbrev pub DoesSo : Passage → List ℕ → World → JournalStep → World → Type 0
+DoesSo p cs w s v = IsAnswered p w s × (v ≡ step_world p cs w s)
+
+-- however it fares; no copy stays yet
 abbrev pub Does : World → JournalStep → World → Type 0
-Does w (Look k d (Looked.Rows infos)) v = (infos ≡ look_rows w k d) × (v ≡ look_world w k d) × (lies_ahead d k ≡ true)
-Does w (Look k d Looked.Lost) v = (v ≡ w) × (lies_ahead d k ≡ true)
-Does w (Send n p (Done rs)) v = (Done rs ≡ deliver_answer w n p) × (v ≡ deliver_world w n p)
-Does w (Send n p (Failed f)) v = (Failed f ≡ deliver_answer w n p) × (v ≡ deliver_world w n p)
-Does w (Send n p (Refused r)) v = (Refused r ≡ deliver_answer w n p) × (v ≡ deliver_world w n p)
-Does w (Send n p Lost) v = (v ≡ w) ⊎ (v ≡ deliver_world w n p)
+Does w s v = (p : Passage) × DoesSo p [] w s v
+
+-- ---- one after another
 
 abbrev pub Takes : World → Happening → World → Type 0
 Takes w (Moved e) v = v ≡ moved w e

@@ -1,5 +1,5 @@
 -- What a sender's steps mean: for every store that the wire's world stands for, the plain answer.
-use Rattle.std.specs.Prelude.{◌≡◌, ℕ, ◌<◌, ◌++◌, ◌⊎◌, Bool, true, List, length, Option, Some, None}
+use Rattle.std.specs.Prelude.{◌≡◌, ℕ, ◌<◌, ◌++◌, ◌⊎◌, true, List, length, Some, None}
 use Rattle.ds_base.specs.Order.{key_lt}
 use Rattle.ds_base.specs.declared.value.Stamp.{Stamp}
 use Rattle.ds_kind.specs.Asks.{is_get_or_scan}
@@ -9,7 +9,6 @@ use Rattle.ds_kind.specs.declared.batch.Item.{Item}
 use Rattle.ds_kind.specs.declared.reply.Failure.TheVariants as Failure
 use Rattle.ds_cell.specs.Store.{Store}
 use Rattle.ds_rule.specs.declared.answer.Outcome.{Outcome}
-use Rattle.ds_rule.specs.declared.answer.Outcome.TheVariants as Outcome
 use Rattle.ds_rule.specs.Asking.{Asking, Fails, ask_all}
 use Rattle.ds_rule.specs.Clauses.{Stands, IsLost}
 use Rattle.ds_rule.specs.Cause.{CauseOf, WholeCauseOf}

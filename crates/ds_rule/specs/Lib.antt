@@ -5,6 +5,7 @@ pub mod Cause
 pub mod Clauses
 pub mod Close
 pub mod Deliver
+pub mod Endings
 pub mod Gathered
 pub mod Journal
 pub mod Keeping

@@ -10,12 +10,13 @@ use Rattle.ds_kind.specs.declared.batch.Piece.{Piece}
 use Rattle.ds_rule.specs.declared.journal.JournalStep.{JournalStep}
 use Rattle.ds_rule.specs.declared.journal.JournalStep.TheVariants.{Look, Send}
 use Rattle.ds_rule.specs.Asking.{Asking}
-use Rattle.ds_rule.specs.Clauses.{Stands, IsAbove, IsLost}
+use Rattle.ds_rule.specs.Clauses.{Stands, IsLost}
 use Rattle.ds_rule.specs.Journal.{Happening, Moved, Did, Runs, Accepted, accepted}
+use Rattle.ds_rule.specs.Moves.{IsMove}
 use Rattle.ds_rule.specs.Pieces.{Each, PieceOf}
 
 abbrev pub IsHigh : ℕ → Happening → Type 0
-IsHigh floor (Moved e) = IsAbove floor e
+IsHigh floor (Moved e) = IsMove floor e
 IsHigh floor (Did s) = Unit {0}
 
 -- a send is of a piece of the batch, which has no limit yet

@@ -1,5 +1,5 @@
 -- What the plain store does at a batch and its answer.
-use Rattle.std.specs.Prelude.{◌≡◌, ℕ, ◌+◌, Bool, true, false, ◌&&◌, ◌⊎◌, List, [], ◌∷◌, map, length, filter, nat_lt, Option, Some, None, if◌then◌else◌, refl}
+use Rattle.std.specs.Prelude.{◌≡◌, ℕ, ◌+◌, Bool, true, false, List, [], ◌∷◌, length, filter, nat_lt, Option, Some, None, if◌then◌else◌}
 use Rattle.std.specs.Option.{option_map}
 use Rattle.ds_base.specs.declared.value.Stamp.{Stamp}
 use Rattle.ds_kind.specs.Asks.{takes_number}
@@ -7,13 +7,10 @@ use Rattle.ds_kind.specs.declared.batch.Batch.{Batch}
 use Rattle.ds_kind.specs.declared.reply.Reply.{Reply}
 use Rattle.ds_kind.specs.declared.request.Request.{Request}
 use Rattle.ds_kind.specs.declared.request.Request.TheVariants.{EndTxn}
-use Rattle.ds_cell.specs.declared.entry.Version.{Version}
 use Rattle.ds_cell.specs.Ask.{Cells}
-use Rattle.ds_cell.specs.Store.{Store, StoreTxn, Asker, Mode, Live, FailedSince, Unknown, OverWith, WriteAt, Fate, Pending, Committed, Aborted, put_cell, with_version}
+use Rattle.ds_cell.specs.Store.{Store, StoreTxn, Asker, Mode, Live, FailedSince, Unknown, WriteAt, Fate, Pending, Committed, Aborted, put_cell, with_version}
 use Rattle.ds_rule.specs.declared.answer.Outcome.{Outcome}
-use Rattle.ds_rule.specs.declared.answer.Outcome.TheVariants as Outcome
 use Rattle.ds_rule.specs.declared.event.Event.{Event}
-use Rattle.ds_rule.specs.declared.event.Event.TheVariants as Event
 use Rattle.ds_rule.specs.declared.event.Timed.{Timed}
 use Rattle.ds_rule.specs.Asking.{Asking, Made, Gives, Fails, ask_all, asking, finished}
 

@@ -1,7 +1,7 @@
 -- How the ranges of a world are split, merged, leased and moved, and what else can happen to it. Nothing is counted here, and
 -- where an event can't apply, nothing changes: so it is too where a new id, generation or number of a lease would pass the
 -- greatest one.
-use Rattle.std.specs.Prelude.{◌≡◌, ℕ, ◌+◌, Bool, true, false, not, ◌&&◌, ◌||◌, ◌==◌, List, [], ◌∷◌, ◌++◌, filter, max, Option, Some, None, nat_eq, nat_lt, if◌then◌else◌}
+use Rattle.std.specs.Prelude.{ℕ, ◌+◌, Bool, not, ◌&&◌, ◌||◌, ◌==◌, List, [], ◌∷◌, ◌++◌, filter, max, Option, Some, None, nat_eq, nat_lt, if◌then◌else◌}
 use Rattle.std.specs.Cmp.Lexicographic.{pointwise}
 use Rattle.std.specs.List.{list_any}
 use Rattle.ds_base.specs.Order.{key_lt, key_le}

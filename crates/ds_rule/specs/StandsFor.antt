@@ -1,5 +1,5 @@
 -- When a world stands for a plain store.
-use Rattle.std.specs.Prelude.{◌≡◌, ℕ, ◌≤◌, ◌<◌, ◌⊎◌, List, [], ◌∷◌, fold, Option, Some, None, refl}
+use Rattle.std.specs.Prelude.{◌≡◌, ℕ, ◌≤◌, ◌⊎◌, List, [], ◌∷◌, fold, Option, Some, None}
 use Rattle.ds_base.specs.Ordered.{Ascends}
 use Rattle.ds_base.specs.declared.value.TxnNo.{TxnNo}
 use Rattle.ds_kind.specs.declared.batch.Batch.{Batch}
@@ -15,7 +15,8 @@ use Rattle.ds_rule.specs.Asking.{Asking, asking}
 use Rattle.ds_rule.specs.Clauses.{Stands}
 use Rattle.ds_rule.specs.Journal.{Happening, Moved, Did}
 use Rattle.ds_rule.specs.Plain.{asker_in, after_event}
-use Rattle.ds_rule.specs.World.{World, Tiles, cell_of}
+use Rattle.ds_rule.specs.Keeping.{Keeps}
+use Rattle.ds_rule.specs.World.{World, cell_of}
 
 -- what the world holds at a key, and what the store holds there: the same writes of the transaction; foreign writes
 -- that wait in the world are versions of the store already, and wait only beside an intent, above the stamp
@@ -68,9 +69,10 @@ HasRecordOf None rs = Unit {0}
 HasRecordOf (Some t) rs = HasRecord t.mode t rs
 
 -- the world stands for the store: what it holds at each key is what the store holds there, its intents are the open
--- transaction's, and so is its last record; records have rising numbers from 1 on, none of them yet to come
+-- transaction's, and so is its last record; records have rising numbers from 1 on, none of them yet to come; and no copy is
+-- under way
 pub record StandsFor (w : World) (p : Store) : Type 0 where
-  pub tiled : Tiles [] w.ranges
+  pub keeps : Keeps w
   pub rising : Ascends key_of p.cells
   pub same : (k : List ℕ) → IsAt (open_stamp p.txn) (cell_of w k) (content_at k p.cells)
   pub intents : (k : List ℕ) → IsIntentOf p.txn (cell_of w k)
@@ -78,6 +80,7 @@ pub record StandsFor (w : World) (p : Store) : Type 0 where
   pub numbers : Rises record_number w.records
   pub named : AllAbove record_number 0 w.records
   pub begun : AllUpTo record_number p.begun w.records
+  pub copies : w.copies ≡ []
 
 -- the store after what happened: its moves alone matter
 abbrev pub after_made : List Happening → Store → Store

@@ -123,7 +123,7 @@ its_steps_play : BatchPlays (played written) (batch_at 20 (get key_a ∷ [])) no
 its_steps_play = record {
   asked = asked_at 20 (get key_a ∷ []);
   asks = refl;
-  plays = (written, tt, (refl, refl, refl), (written, a_get_is_a_piece_of_its_batch (alone_at 20), (refl, refl), refl));
+  plays = (tt, (refl, refl), (a_get_is_a_piece_of_its_batch (alone_at 20), refl, refl));
 }
 
 a_get_after_a_write_has_a_legal_journal : LegalJournal script (entry 7 ∷ [])
@@ -139,7 +139,7 @@ an_answer_that_no_range_gives_is_not_legal h =
     let third = plays_entry JournalTurn second.0 h.0 (on_line 3 get_line) [] (entry 9) [] refl second.2 in
     let world : second.0.world ≡ written = second.1.0 ∙ ap (λ w. moved w (wrote key_a 4 7)) first.1.0 in
     let steps = third.2.0.plays in
-    differs (steps.3.2.0 ∙ ap (λ w. deliver_answer w 1 get_piece) (steps.2.1 ∙ ap (λ w. look_world w key_a Forward) world)) (λ a. number_in a == 9) refl refl
+    differs (steps.2.1 ∙ ap (λ w. deliver_answer (look_world w key_a Forward) 1 get_piece) world) (λ a. number_in a == 9) refl refl
 
 -- a transaction at stamp 10 reads and closes; nobody ends it before
 abbrev txn_script : List Numbered
@@ -161,7 +161,7 @@ abbrev txn_world : RecordStatus → World
 txn_world s = record begun { records = txn_record 1 s ∷ [] }
 
 its_get_plays : BatchPlays (record { world = txn_world RecordStatus.Pending; asks = txn_asks }) (batch_of_txn (get key_a ∷ [])) nothing_beside (Send 1 (piece (by_txn 1) 1 (get key_a ∷ [])) (Done none_seen) ∷ []) (txn_world RecordStatus.Pending)
-its_get_plays = record { asked = asked_by (by_txn 1) (get key_a ∷ []); asks = refl; plays = (txn_world RecordStatus.Pending, a_get_is_a_piece_of_its_batch (by_txn 1), (refl, refl), refl) }
+its_get_plays = record { asked = asked_by (by_txn 1) (get key_a ∷ []); asks = refl; plays = (a_get_is_a_piece_of_its_batch (by_txn 1), refl, refl) }
 
 a_transaction_that_reads_has_a_legal_journal : LegalJournal txn_script txn_log
 a_transaction_that_reads_has_a_legal_journal = (

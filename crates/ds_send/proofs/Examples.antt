@@ -4,7 +4,7 @@ use Rattle.std.proofs.Common.{◌≡◌, ℕ, List, [], ◌∷◌, Some, None, r
 use Rattle.ds_base.specs.Ordered.{key_eq}
 use Rattle.ds_kind.specs.declared.reply.Body.{Body}
 use Rattle.ds_kind.specs.declared.reply.Row.{Row}
-use Rattle.ds_rule.specs.Journal.{Did}
+use Rattle.ds_rule.specs.Journal.{Did, BothWays}
 use Rattle.ds_rule.proofs.Examples.{key_a, key_m, low, high, world, row, differs}
 use Rattle.ds_rule.proofs.ExamplesOfJournals.{look, wire}
 use Rattle.ds_send.specs.Asked.{asker_in}
@@ -42,7 +42,7 @@ a_lookups_first_row_is_the_route = (
     moves = [];
     above = tt;
     grown = refl;
-    runs = (world, (refl, refl, refl), refl);
+    runs = (world, (BothWays, ((refl, refl), refl)), refl);
     floor = refl;
     ahead = refl;
     refused = omega arith;

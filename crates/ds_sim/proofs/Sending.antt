@@ -3,23 +3,23 @@ use Rattle.std.proofs.Common.{◌≡◌, ℕ, ◌<◌, ◌≤◌, ◌+◌, ◌-�
 use Rattle.std.specs.List.{find}
 use Rattle.ds_base.specs.Counts.{Rose}
 use Rattle.ds_base.proofs.SmallFacts.{append_nil, ge_of}
+use Rattle.ds_base.specs.declared.value.Dir.{Dir}
+use Rattle.ds_desc.specs.Contains.{lies_ahead}
+use Rattle.ds_desc.specs.declared.desc.Info.{Info}
+use Rattle.ds_desc.specs.declared.meta.Looked.TheVariants as Looked
 use Rattle.ds_kind.specs.declared.batch.Piece.{Piece}
 use Rattle.ds_rule.specs.declared.answer.Answer.{Answer}
 use Rattle.ds_rule.specs.declared.answer.Answer.TheVariants.{Done, Failed, Refused, Lost}
+use Rattle.ds_rule.specs.declared.record.TxnRecord.{TxnRecord}
 use Rattle.ds_rule.specs.declared.journal.JournalStep.{JournalStep}
-use Rattle.ds_rule.specs.declared.journal.JournalStep.TheVariants.{Send}
+use Rattle.ds_rule.specs.declared.journal.JournalStep.TheVariants.{Look, Send}
 use Rattle.ds_rule.specs.Asking.{Made, Gives, Fails}
-use Rattle.ds_rule.specs.World.{World, Range, has_id}
+use Rattle.ds_rule.specs.World.{World, Range, has_id, look_rows}
 use Rattle.ds_rule.specs.Deliver.{Stop, Turned, Ended, stops, served, deliver_answer, deliver_world, deliver_answer_to, answer_at, answer_made}
-use Rattle.ds_rule.specs.Journal.{Did, Does}
+use Rattle.ds_rule.specs.Journal.{Did, BothWays}
 use Rattle.ds_rule.specs.Clauses.{Stands, Steps, Stays, IsRefused, IsLost}
-use Rattle.ds_sim.specs.State.{stands_for, refused_after}
-
-does_of : (w v : World) (n : ℕ) (p : Piece) (a : Answer) → a ≡ deliver_answer w n p → v ≡ deliver_world w n p → Does w (Send n p a) v
-does_of w v n p (Done rs) h k = (h, k)
-does_of w v n p (Failed f) h k = (h, k)
-does_of w v n p (Refused r) h k = (h, k)
-does_of w v n p Lost h k = inr k
+use Rattle.ds_rule.proofs.Passing.{send_does}
+use Rattle.ds_sim.specs.State.{stands_for, refused_after, world_of}
 
 map_append : (xs ys : List JournalStep) → map Did (xs ++ ys) ≡ map Did xs ++ map Did ys
 map_append [] ys = refl
@@ -75,13 +75,28 @@ send_steps w v steps later floor c n p a grown is after fits = record {
   moves = [];
   above = tt;
   grown = ap (map Did) grown ∙ map_append steps (Send n p a ∷ []);
-  runs = (v, does_of w v n p a is after, refl);
+  runs = (v, send_does w v n p a is after, refl);
   floor = refl;
   ahead = refl;
   refused = refused_rises a c;
   lost = omega arith;
   refuses = refuses_of n p a c fits;
   loses = loses_of w n p a is;
+}
+
+-- what a lookup adds: its rows are the world's, in which no row is armed
+pub look_steps : (rs : List Range) (records : List TxnRecord) (n : ℕ) (steps later : List JournalStep) (floor c : ℕ) (k : List ℕ) (d : Dir) (infos : List Info) → later ≡ steps ++ Look k d (Looked.Rows infos) ∷ [] → infos ≡ look_rows (world_of rs records n) k d → lies_ahead d k ≡ true → Steps (stands_for (world_of rs records n) steps floor c) (stands_for (world_of rs records n) later floor c) (Look k d (Looked.Rows infos))
+look_steps rs records n steps later floor c k d infos grown rows ahead = record {
+  moves = [];
+  above = tt;
+  grown = ap (map Did) grown ∙ map_append steps (Look k d (Looked.Rows infos) ∷ []);
+  runs = (world_of rs records n, (BothWays, ((rows, ahead), refl)), refl);
+  floor = refl;
+  ahead = refl;
+  refused = omega arith;
+  lost = omega arith;
+  refuses = λ h. absurd h;
+  loses = λ h. absurd h;
 }
 
 stays_here : (a : Stands) → Stays a a

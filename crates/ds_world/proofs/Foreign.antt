@@ -39,14 +39,18 @@ holding-newest ds p g (r ∷ rs) new = elim (p r) as (λ b. Each (IsNewest ds) (
   | false ↦ (new.0, holding-newest ds p g rs new.1)
 ]
 
-pub foreign-keeps : (k : List ℕ) (v : Version) (w : World) → Keeps w → Keeps (foreign_at k v w)
-foreign-keeps k v w h = record {
-  tiled = tiles-put k (after_foreign v) [] w.ranges h.tiled;
-  newest = holding-newest w.descs (holds_key k) (λ r. put_cell k (after_foreign v) r.cells) w.ranges h.newest;
+-- other cells in the first range that passes, where these fit it
+pub keeps-holding : (p : Range → Bool) (g : Range → List Cell) (w : World) → Tiles [] (holding p g w.ranges) → Keeps w → Keeps (record w { ranges = holding p g w.ranges })
+keeps-holding p g w tiled h = record {
+  tiled = tiled;
+  newest = holding-newest w.descs p g w.ranges h.newest;
   rise = h.rise;
-  ids = ap ids_differ (holding-infos (holds_key k) (λ r. put_cell k (after_foreign v) r.cells) w.ranges) ∙ h.ids;
-  leases = ap (list_all has_lease) (holding-infos (holds_key k) (λ r. put_cell k (after_foreign v) r.cells) w.ranges) ∙ h.leases;
+  ids = ap ids_differ (holding-infos p g w.ranges) ∙ h.ids;
+  leases = ap (list_all has_lease) (holding-infos p g w.ranges) ∙ h.leases;
 }
+
+pub foreign-keeps : (k : List ℕ) (v : Version) (w : World) → Keeps w → Keeps (foreign_at k v w)
+foreign-keeps k v w h = keeps-holding (holds_key k) (λ r. put_cell k (after_foreign v) r.cells) w (tiles-put k (after_foreign v) [] w.ranges h.tiled) h
 
 -- ---- what it leaves in all ranges
 
@@ -57,7 +61,7 @@ and_false : (t : Bool) → (t && false) ≡ false
 and_false true = refl
 and_false false = refl
 
-ends-low : (s : List ℕ) (rs : List Range) → Tiles s rs → key_le s bound ≡ true
+pub ends-low : (s : List ℕ) (rs : List Range) → Tiles s rs → key_le s bound ≡ true
 ends-low s [] t = subst (λ z. key_le s z ≡ true) t (le_itself s)
 ends-low s (r ∷ rs) t = le_trans s (end_of r) bound (le_of_lt s (end_of r) t.0.some) (ends-low (end_of r) rs t.1)
 

@@ -1,5 +1,6 @@
 pub mod Cells
 pub mod Commutes
+pub mod First
 pub mod Foreign
 pub mod Leases
 pub mod Merges

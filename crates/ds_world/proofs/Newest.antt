@@ -33,7 +33,7 @@ all-more : (g : ℕ) (xs : List RangeDesc) (e : RangeDesc) → AllNewer g xs →
 all-more g [] e all h = (h, tt)
 all-more g (x ∷ xs) e all h = (all.0, all-more g xs e all.1 h)
 
-all-last : (g : ℕ) (xs : List RangeDesc) (d : RangeDesc) → AllNewer g xs → last_of xs ≡ Some d → g < d.generation
+pub all-last : (g : ℕ) (xs : List RangeDesc) (d : RangeDesc) → AllNewer g xs → last_of xs ≡ Some d → g < d.generation
 all-last g [] d all h = cc
 all-last g (x ∷ xs) d all h = elim (last-cases x xs d h) [
   | inl one ↦ subst (λ z. g < z.generation) one.1 all.0

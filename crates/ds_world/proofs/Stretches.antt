@@ -95,3 +95,13 @@ keeps-shifted f k w c = record {
   ids = c.after.ids;
   leases = c.after.leases;
 }
+
+-- ranges and descriptors alone decide it
+pub keeps-same : (w v : World) → v.ranges ≡ w.ranges → v.descs ≡ w.descs → Keeps w → Keeps v
+keeps-same w v ranges descs k = record {
+  tiled = subst (Tiles []) (sym ranges) k.tiled;
+  newest = subst (λ ds. Each (IsNewest ds) v.ranges) (sym descs) (subst (Each (IsNewest w.descs)) (sym ranges) k.newest);
+  rise = subst GenerationsRise (sym descs) k.rise;
+  ids = ap (λ rs. ids_differ (infos rs)) ranges ∙ k.ids;
+  leases = ap (λ rs. list_all has_lease (infos rs)) ranges ∙ k.leases;
+}

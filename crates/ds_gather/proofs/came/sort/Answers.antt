@@ -2,7 +2,6 @@ use Rattle.std.proofs.Common.{rules, ◌≡◌}
 use Rattle.std.specs.Cmp.Lexicographic.{nat_list_cmp_total}
 use Rattle.std.specs.Ordering.{is_lt}
 use Rattle.std.proofs.lemmas.List.Sorted.{answers_always, ranks_by}
-use Rattle.ds_base.specs.Order.{key_cmp}
 use Rattle.ds_gather.specs.Numbered.{rank}
 use Rattle.ds_gather.proofs.Ranking.{by_rank, sorted_so}
 use Rattle.ds_gather.proofs.came.sort.Goals as goal

@@ -1,0 +1,9 @@
+pub mod Changing
+pub mod Events
+pub mod Finding
+pub mod Newests
+pub mod Parting
+pub mod Removing
+pub mod RowLists
+pub mod Sounds
+pub mod Starting

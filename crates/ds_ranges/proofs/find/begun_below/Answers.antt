@@ -1,0 +1,12 @@
+use Rattle.std.proofs.Common.{rules, []}
+use Rattle.std.proofs.lemmas.List.Sorted.{IsPartitionPoint-from_clause}
+use Rattle.ds_base.specs.Order.{key_lt}
+use Rattle.ds_rule.specs.World.{start_of}
+use Rattle.ds_ranges.proofs.Finding.{starts-parted}
+use Rattle.ds_ranges.proofs.find.begun_below.Goals as goal
+
+pub returns-clause-point : goal.returns-clause-point
+returns-clause-point c =
+    let ranges = c.args.ranges.now in
+    let key = c.args.key.now in
+    IsPartitionPoint-from_clause (λ r. key_lt (start_of r) key) ranges c.partition_point.result c.partition_point.ensures.partitioned (starts-parted key [] ranges c.requires) (λ a r q k. search rules)
