@@ -10,7 +10,7 @@ use Rattle.ds_desc.specs.declared.desc.RangeDesc.{RangeDesc}
 use Rattle.ds_lineage.specs.Last.{IsLastAt, IsNewestAt}
 use Rattle.ds_rule.specs.Keeping.{IsNewest}
 use Rattle.ds_rule.specs.World.{Range}
-use Rattle.ds_rule.proofs.Recorded.{last-cases}
+use Rattle.ds_rule.proofs.Lasts.{last-cases}
 use Rattle.ds_world.proofs.Newest.{all-last}
 
 -- nothing newer comes after the last

@@ -13,7 +13,7 @@ use Rattle.ds_desc.specs.Contains.{contains}
 use Rattle.ds_rule.specs.Pieces.{Each}
 use Rattle.ds_rule.specs.World.{Range, Tiles, start_of, end_of, from_first, holds_key, in_order}
 use Rattle.ds_rule.proofs.Eachs.{each-append}
-use Rattle.ds_rule.proofs.Standing.{least}
+use Rattle.ds_rule.proofs.Routes.{least}
 use Rattle.ds_ranges.specs.Places.{IsPoint}
 use Rattle.ds_ranges.proofs.Finding.{lt_of_not_le, out-low}
 
