@@ -1,11 +1,11 @@
 -- Worked examples of the definitions, some that hold and some that must not.
-use Rattle.std.proofs.Common.{◌≡◌, ℕ, ◌<◌, true, false, List, [], ◌∷◌, Some, None, refl, sym, ap, subst, length, get_or, arith}
+use Rattle.std.proofs.Common.{◌≡◌, ℕ, ◌<◌, true, false, List, [], ◌∷◌, None, refl, sym, ap, subst, length, get_or, arith}
 use Rattle.ds_base.specs.Order.{bound, key_le}
 use Rattle.ds_base.proofs.SmallFacts.{some_same}
 use Rattle.ds_desc.specs.declared.desc.RangeDesc.{RangeDesc}
 use Rattle.ds_rule.specs.Shifts.{lease_to, merge_at, split_at}
 use Rattle.ds_rule.specs.World.{Range, end_of, holds_key}
-use Rattle.ds_ranges.specs.Layout.{Became, Layout, laid, layout, own_descs}
+use Rattle.ds_ranges.specs.Layout.{Became, Layout, layout, own_descs}
 use Rattle.ds_ranges.specs.Places.{IsFirst, IsFirstOf, IsPoint}
 use Rattle.ds_ranges.specs.Sound.{IsNoted, bare, noted_desc}
 

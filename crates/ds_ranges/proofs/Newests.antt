@@ -1,5 +1,5 @@
 -- Where the newest descriptor of a range stands.
-use Rattle.std.proofs.Common.{◌≡◌, ℕ, zero, suc, ◌<◌, Bool, true, false, cond, List, [], ◌∷◌, Some, None, inl, inr, refl, sym, ap, ◌∙◌, subst, arith}
+use Rattle.std.proofs.Common.{◌≡◌, ℕ, zero, suc, ◌<◌, true, false, cond, List, [], ◌∷◌, Some, inl, inr, sym, ap, ◌∙◌, subst, arith}
 use Rattle.std.specs.List.{slice_get}
 use Rattle.ds_base.specs.declared.value.Dir.TheVariants.{Forward}
 use Rattle.ds_base.proofs.SmallFacts.{some_same}

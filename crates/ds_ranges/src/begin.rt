@@ -58,9 +58,7 @@ fn rises(ranges: &[ClusterRange]) -> bool
 pub fn are_leased(ranges: &[ClusterRange]) -> bool
     ensures { result ≡ list_all is_leased ranges.now }
 {
-    ranges
-        .iter()
-        .all(|range| range.nodes.contains(range.lease))
+    ranges.iter().all(|range| range.nodes.contains(range.lease))
 }
 
 /// A range as it begins: generation 1, lease number 1, and nothing in it.

@@ -1,4 +1,4 @@
-use Rattle.std.proofs.Common.{◌≡◌, ◌<◌, [], suc, Some, sym, ap, ◌∙◌, subst, length, take, arith}
+use Rattle.std.proofs.Common.{◌≡◌, ◌<◌, [], suc, Some, sym, ap, ◌∙◌, subst, length, arith}
 use Rattle.std.specs.List.{slice_get}
 use Rattle.ds_desc.specs.Descs.{greatest_id}
 use Rattle.ds_ranges.proofs.Events.{Entry, entry}
