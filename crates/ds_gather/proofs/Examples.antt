@@ -1,7 +1,8 @@
 -- What gathering must not give, and cases of what its laws ask.
-use Rattle.std.proofs.Common.{◌≡◌, ℕ, ◌≤◌, ◌==◌, cond, arith, Bool, true, false, List, [], ◌∷◌, ◌++◌, Option, Some, None, pos, refl, sym, ap, ◌∙◌}
+use Rattle.std.proofs.Common.{◌≡◌, ℕ, ◌≤◌, ◌==◌, cond, arith, Bool, true, false, List, [], ◌∷◌, ◌++◌, Option, Some, None, pos, refl}
 use Rattle.ds_base.specs.Order.{Extent}
 use Rattle.ds_base.specs.declared.value.Value.TheVariants.{Int}
+use Rattle.ds_base.proofs.TestFacts.{differs}
 use Rattle.ds_kind.specs.declared.reply.Reply.{Reply}
 use Rattle.ds_kind.specs.declared.reply.Row.{Row}
 use Rattle.ds_kind.specs.declared.reply.Body.TheVariants.{Rows, Gone}
@@ -11,9 +12,6 @@ use Rattle.ds_gather.specs.Gathered.{start_of, gathered, rows_in}
 use Rattle.ds_gather.specs.Laws.{row_key, StartsDiffer, AllOfKind, InDirection, EachLies}
 use Rattle.ds_gather.specs.declared.arrival.Arrival.{Arrival}
 use Rattle.ds_gather.specs.declared.arrival.Wanted.{Wanted}
-
-differs : {X : Type 0} {x y : X} → x ≡ y → (test : X → Bool) → test x ≡ true → test y ≡ false → ⊥
-differs same test passes fails = let both : true ≡ false = sym passes ∙ ap test same ∙ fails in cc
 
 abbrev row_of : ℕ → List Row
 row_of k = record { key = k ∷ []; value = Int (pos 1) } ∷ []

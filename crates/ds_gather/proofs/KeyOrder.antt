@@ -1,9 +1,10 @@
 -- What is joined over a chain of spans is in key order where each answer is.
 use Rattle.std.proofs.Common.{◌≡◌, ℕ, Bool, true, false, cond, List, [], ◌∷◌, ◌++◌, reverse, refl, sym, ap, ◌∙◌, subst}
 use Rattle.std.proofs.lemmas.List.{reverse-append}
-use Rattle.ds_base.specs.Order.{key_lt, key_le}
+use Rattle.ds_base.specs.Order.{key_lt}
 use Rattle.ds_base.specs.Ordered.{AllOver, AllFrom, AllBelow, Ascends}
-use Rattle.ds_base.proofs.OrderedFacts.{le_of_lt, le_trans, lt_le_trans, over-append}
+use Rattle.ds_base.proofs.OrderedFacts.{le_of_lt, lt_le_trans, over-append}
+use Rattle.ds_base.proofs.KeyFacts.{from_lower}
 use Rattle.ds_kind.specs.Bodies.{put_in_order, in_order, those_at}
 use Rattle.ds_kind.specs.declared.reply.Body.TheVariants.{Rows, Gone}
 use Rattle.ds_kind.specs.declared.reply.Row.{Row}
@@ -46,10 +47,6 @@ below-turned : {X : Type 0} (down : Bool) (key : X → List ℕ) (k : List ℕ) 
 below-turned true key k xs h = below-reverse key k xs h
 below-turned false key k xs h = h
 
-from-lower : {X : Type 0} (key : X → List ℕ) (m k : List ℕ) (xs : List X) → key_le m k ≡ true → AllFrom key k xs → AllFrom key m xs
-from-lower key m k [] h all = tt
-from-lower key m k (x ∷ xs) h all = (le_trans m k (key x) h all.0, from-lower key m k xs h all.1)
-
 over-from : {X : Type 0} (key : X → List ℕ) (k m : List ℕ) (xs : List X) → key_lt k m ≡ true → AllFrom key m xs → AllOver key k xs
 over-from key k m [] h all = tt
 over-from key k m (x ∷ xs) h all = (lt_le_trans k m (key x) h all.0, over-from key k m xs h all.1)
@@ -83,7 +80,7 @@ over-chain {X} down key give end s e (a ∷ more) chain lies =
     let P : List X → Type 0 = λ zs. Ascends key zs × AllFrom key s zs in
     subst P (sym (one_of down give a more)) (
       ascends-append key m one _ lies.0 rest.0 (below-turned down key m (give a) lies.2) rest.1,
-      from-append key s one _ (from-turned down key s (give a) (subst (λ k. AllFrom key k (give a)) chain.0 lies.1)) (from-lower key s m _ (le_of_lt s m chain.1) rest.1),
+      from-append key s one _ (from-turned down key s (give a) (subst (λ k. AllFrom key k (give a)) chain.0 lies.1)) (from_lower key s m _ (le_of_lt s m chain.1) rest.1),
     )
 
 -- each lies in its span, in whatever order they stand

@@ -5,6 +5,7 @@ use Rattle.std.specs.List.Sorted.{IsPartitionPoint, IsPartitionedBy}
 use Rattle.std.proofs.Math.ListN.{set}
 use Rattle.std.proofs.lemmas.Bool.Decides.{nat_tests}
 use Rattle.std.proofs.lemmas.List.Sums.{prefix_len_is}
+use Rattle.ds_base.proofs.TestFacts.{not_both}
 use Rattle.ds_cover.specs.Items.{AllAfter}
 use Rattle.ds_gather.specs.Places.{NoneAt, Rises, wanted_in, wanted_pos, change_at}
 use Rattle.ds_gather.specs.declared.place.Place.{Place}
@@ -24,17 +25,13 @@ none_at p [] j d none low = absurd (omega (arith, low))
 none_at p (x ∷ xs) zero d none low = none.0
 none_at p (x ∷ xs) (suc j) d none low = none_at p xs j d none.1 (omega (arith, low))
 
-both_ways : {G : Type 0} (t : Bool) → t ≡ true → t ≡ false → G
-both_ways true p q = cc
-both_ways false p q = cc
-
 pub parted : {X : Type 0} (p : X → Bool) (xs : List X) → Parts p xs → IsPartitionedBy p xs
 parted p [] h i j d le low passes = absurd (omega (arith, low))
 parted p (x ∷ xs) h zero zero d le low passes = passes
 parted p (x ∷ xs) h zero (suc j) d le low passes =
     elim (p x) as (λ t. p x ≡ t → t ≡ true) [
       | true ↦ λ e. refl
-      | false ↦ λ e. both_ways (p (get_or xs j d)) passes (none_at p xs j d (h.0 e) (omega (arith, low)))
+      | false ↦ λ e. not_both (p (get_or xs j d)) passes (none_at p xs j d (h.0 e) (omega (arith, low)))
     ] refl
 parted p (x ∷ xs) h (suc i) zero d le low passes = absurd (omega (arith, le))
 parted p (x ∷ xs) h (suc i) (suc j) d le low passes = parted p xs h.1 i j d (omega (arith, le)) (omega (arith, low)) passes

@@ -7,8 +7,9 @@ use Rattle.std.proofs.lemmas.List.Sorted.{IsPermutation-sym}
 use Rattle.std.proofs.lemmas.Bool.Decides.{nat_tests}
 use Rattle.ds_base.specs.Order.{key_cmp, key_lt, key_le}
 use Rattle.ds_base.specs.Ordered.{key_eq, AllFrom}
-use Rattle.ds_base.proofs.OrderedFacts.{le_of_not_lt, le_trans, not_lt_of_le, eq_same}
+use Rattle.ds_base.proofs.OrderedFacts.{le_of_not_lt, not_lt_of_le, eq_same}
 use Rattle.ds_base.proofs.SmallFacts.{lt_of, ge_of}
+use Rattle.ds_base.proofs.KeyFacts.{from_lower}
 use Rattle.ds_kind.specs.Bodies.{put_in_order, in_order}
 use Rattle.ds_cover.specs.Chains.{one_if, times_keyed, Sorts, KeysDiffer}
 use Rattle.ds_cover.proofs.InOrder.{differ-moved, differ-ascend, ascends-sorted, same_members, moved-in, in-sorted, sorted-in, sorts}
@@ -144,10 +145,6 @@ ranks_differ n (a ∷ xs) k =
     ] refl
 
 -- a list in which none is below the one before it
-
-from_lower : {X : Type 0} (key : X → List ℕ) (m k : List ℕ) (xs : List X) → key_le m k ≡ true → AllFrom key k xs → AllFrom key m xs
-from_lower key m k [] h all = tt
-from_lower key m k (x ∷ xs) h all = (le_trans m k (key x) h all.0, from_lower key m k xs h all.1)
 
 add_one : (n : ℕ) → suc n ≡ n + 1
 add_one n = omega arith

@@ -2,22 +2,18 @@
 use Rattle.std.proofs.Common.{◌≡◌, ℕ, ◌<◌, true, cond, List, [], ◌∷◌, ◌++◌, None, refl, sym, ap, ◌∙◌, subst, append_assoc, eq-eqb, ne_eqb, arith, Option}
 use Rattle.std.specs.List.{list_all}
 use Rattle.ds_base.proofs.SmallFacts.{append_nil}
-use Rattle.ds_base.specs.Order.{key_lt}
-use Rattle.ds_base.proofs.KeyOrder.{below-after}
 use Rattle.ds_base.proofs.SmallFacts.{and_first, and_second}
 use Rattle.ds_rule.proofs.Eachs.{each-append, each-right}
-use Rattle.ds_kind.specs.Asks.{has_proper_span, is_proper}
+use Rattle.ds_kind.specs.Asks.{has_proper_span}
 use Rattle.ds_kind.specs.Parts.{requests_of}
-use Rattle.ds_kind.specs.Reach.{Reach, At, Over, extent_of}
-use Rattle.ds_kind.specs.Request.{cut_to, reach_of, span_of}
+use Rattle.ds_kind.specs.Request.{span_of}
 use Rattle.ds_kind.specs.declared.batch.Head.{Head}
 use Rattle.ds_kind.specs.declared.batch.Item.{Item}
 use Rattle.ds_kind.specs.declared.reply.Reply.{Reply}
-use Rattle.ds_kind.specs.declared.request.Request.{Request}
-use Rattle.ds_kind.specs.declared.request.Request.TheVariants.{Get, Scan, ReverseScan, Put, ConditionalPut, InitPut, Increment, Delete, DeleteRange, EndTxn, QueryIntent, ResolveIntent, ResolveIntentRange, AdminSplit, AdminTransferLease}
 use Rattle.ds_cell.specs.Ask.{Cells, Asked, Failed as Refuses, Gave}
 use Rattle.ds_cell.specs.Content.{AllAbove, Rises}
 use Rattle.ds_kind.specs.Bodies.{goes_down, join_bodies}
+use Rattle.ds_kind.proofs.RequestFacts.{cut_whole, proper_some}
 use Rattle.ds_cell.specs.Replies.{body_of}
 use Rattle.ds_cell.specs.Requests.{ask_request}
 use Rattle.ds_cell.specs.Store.{WriteAt}
@@ -69,35 +65,14 @@ asked-all ts h (i ∷ is) now cells vs rs g =
 
 -- a request cut to its whole span is itself
 
-cut-whole : (r : Request) → cut_to (span_of r).start (span_of r).end r ≡ r
-cut-whole (Get a) = refl
-cut-whole (Scan a) = refl
-cut-whole (ReverseScan a) = refl
-cut-whole (Put a) = refl
-cut-whole (ConditionalPut a) = refl
-cut-whole (InitPut a) = refl
-cut-whole (Increment a) = refl
-cut-whole (Delete a) = refl
-cut-whole (DeleteRange a) = refl
-cut-whole (EndTxn a) = refl
-cut-whole (QueryIntent a) = refl
-cut-whole (ResolveIntent a) = refl
-cut-whole (ResolveIntentRange a) = refl
-cut-whole (AdminSplit a) = refl
-cut-whole (AdminTransferLease a) = refl
-
-proper-some : (x : Reach) → is_proper x ≡ true → key_lt (extent_of x).start (extent_of x).end ≡ true
-proper-some (At k) h = below-after k
-proper-some (Over s e) h = h
-
 -- one piece that is the whole request
 
 one-joins : (h : Head) (i : Item) (r : Reply) → has_proper_span i.request ≡ true → IsAnswer i r → Joins i (span_of i.request).start (span_of i.request).end (record { head = h; item = i; reply = r } ∷ []) r.body
 one-joins h i r proper answer = (
   (span_of i.request).end,
   body_of i.request [],
-  proper-some (reach_of i.request) proper,
-  sym (ap (λ z. record i { request = z }) (cut-whole i.request)),
+  proper_some i.request proper,
+  sym (ap (λ z. record i { request = z }) (cut_whole i.request)),
   (refl, refl),
   answer.kind.is ∙ sym (join-nothing i.request answer.kind.bits) ∙ sym (ap (λ b. join_bodies (goes_down i.request) b (body_of i.request [])) answer.kind.is),
 )

@@ -1,6 +1,7 @@
 -- Worked examples of the definitions, some that hold and some that must not: worlds, deliveries and events. The values at
 -- the top are those of the other examples too.
-use Rattle.std.proofs.Common.{◌≡◌, ℕ, ◌+◌, ◌==◌, Bool, true, false, List, [], ◌∷◌, length, Some, None, pos, refl, sym, ap, ◌∙◌}
+use Rattle.std.proofs.Common.{◌≡◌, ℕ, ◌+◌, ◌==◌, Bool, true, false, List, [], ◌∷◌, length, Some, None, pos, refl}
+pub use Rattle.ds_base.proofs.TestFacts.{differs}
 use Rattle.ds_base.specs.Order.{bound}
 use Rattle.ds_base.specs.Ordered.{key_eq}
 use Rattle.ds_base.specs.declared.value.Dir.TheVariants.{Forward, Reverse}
@@ -143,10 +144,6 @@ number_in a = 0
 -- a foreign write
 abbrev pub wrote : List ℕ → ℕ → ℕ → Event
 wrote k s n = Event.Write k (record { 0 = s }) (Some (Int (pos n)))
-
--- what passes a test isn't what fails it
-pub differs : {X : Type 0} {x y : X} → x ≡ y → (test : X → Bool) → test x ≡ true → test y ≡ false → ⊥
-differs same test passes fails = let both : true ≡ false = sym passes ∙ ap test same ∙ fails in cc
 
 pub never : false ≡ true → ⊥
 never h = cc

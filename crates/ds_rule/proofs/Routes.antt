@@ -1,9 +1,9 @@
 -- What one range holds, read off all contents.
-use Rattle.std.proofs.Common.{◌≡◌, ℕ, Bool, true, false, cond, not, List, [], ◌∷◌, ◌++◌, Some, refl, sym, ap, ◌∙◌, subst}
+use Rattle.std.proofs.Common.{◌≡◌, ℕ, Bool, true, false, cond, List, [], ◌∷◌, ◌++◌, Some, refl, sym, ap, ◌∙◌, subst}
 use Rattle.std.specs.List.{find}
+pub use Rattle.ds_base.proofs.KeyFacts.{le_itself, least}
 use Rattle.ds_base.specs.Order.{key_lt, key_le}
 use Rattle.ds_base.specs.Ordered.{AllOver, AllFrom, AllBelow, Ascends, between}
-use Rattle.ds_base.proofs.KeyOrder.{key_le-not_lt, key_lt-irrefl}
 use Rattle.ds_base.proofs.SmallFacts.{and_first, and_second, append_nil}
 use Rattle.ds_base.proofs.OrderedFacts.{le_of_lt, le_trans, lt_le_trans, over-append, cut-append, none-from, none-below}
 use Rattle.ds_cell.specs.Ask.{Cell, key_of}
@@ -38,16 +38,6 @@ pub ascends-append : (m : List ℕ) (xs ys : List Cell) → Ascends key_of xs �
 ascends-append m [] ys a b c d = c
 ascends-append m (x ∷ xs) ys a b c d =
     (over-append key_of x.0 xs ys a.0 (over-of-from x.0 m ys b.0 d), ascends-append m xs ys a.1 b.1 c d)
-
-pub le_itself : (k : List ℕ) → key_le k k ≡ true
-le_itself k = not_false (key_lt-irrefl k)
-  where
-    not_false : key_lt k k ≡ false → key_le k k ≡ true
-    not_false h = key_le-not_lt k k ∙ ap not h
-
-pub least : (k : List ℕ) → key_le [] k ≡ true
-least [] = refl
-least (x ∷ xs) = refl
 
 -- all contents rise
 pub contents-ascend : (s : List ℕ) (rs : List Range) → Tiles s rs → Ascends key_of (contents rs)

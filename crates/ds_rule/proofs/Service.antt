@@ -1,6 +1,7 @@
 -- What a delivered piece was served.
-use Rattle.std.proofs.Common.{◌≡◌, ℕ, Bool, true, false, cond, not, ◌==◌, List, Option, Some, None, refl, sym}
+use Rattle.std.proofs.Common.{◌≡◌, ℕ, Bool, true, false, cond, not, ◌==◌, List, Option, Some, None, refl}
 use Rattle.std.specs.List.{find, list_all, list_any}
+use Rattle.ds_base.proofs.TestFacts.{not_false}
 use Rattle.ds_desc.specs.declared.refusal.Refusal.TheVariants.{NotFound, NotLease, Mismatch}
 use Rattle.ds_kind.specs.declared.batch.Piece.{Piece}
 use Rattle.ds_kind.specs.declared.reply.Failure.{Failure}
@@ -46,10 +47,6 @@ if_none : (t : Bool) (x : Stop) (o : Option Stop) → cond t (Some x) o ≡ None
 if_none true x o h = cc
 if_none false x o h = (refl, h)
 
-not_not : (t : Bool) → not t ≡ false → t ≡ true
-not_not true h = refl
-not_not false h = sym h
-
 -- a range that serves a piece holds its items' spans
 pub held : (w : World) (node : ℕ) (p : Piece) (r : Range) → stops w node p r ≡ None → list_all (holds_item r) p.items ≡ true
 held w node p r h =
@@ -59,7 +56,7 @@ held w node p r h =
     let a = if_none (not (list_any (λ n. n == node) r.info.desc.nodes)) (Turned NotFound) second h in
     let b = if_none (not (r.info.lease.node == node)) (Turned (NotLease r.info.lease)) third a.1 in
     let c = if_none (not (list_all (holds_item r) p.items)) (Turned (Mismatch (mismatch_rows w p))) last b.1 in
-    not_not (list_all (holds_item r) p.items) c.0
+    not_false (list_all (holds_item r) p.items) c.0
 
 free_of : (o : Option Failure) → ends o ≡ None → o ≡ None
 free_of None h = refl

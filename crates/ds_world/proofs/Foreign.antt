@@ -1,6 +1,7 @@
 -- What a write of another client keeps of a world.
 use Rattle.std.proofs.Common.{◌≡◌, ℕ, Bool, true, false, cond, ◌&&◌, List, [], ◌∷◌, refl, sym, ap, ◌∙◌, subst}
 use Rattle.std.specs.List.{list_all}
+use Rattle.std.proofs.Math.Bool.{and-false}
 use Rattle.ds_base.specs.Order.{key_lt, key_le, bound}
 use Rattle.ds_base.proofs.OrderedFacts.{le_of_lt, le_of_not_lt, le_trans, not_lt_of_le}
 use Rattle.ds_desc.specs.declared.desc.RangeDesc.{RangeDesc}
@@ -57,10 +58,6 @@ foreign-keeps k v w h = keeps-holding (holds_key k) (λ r. put_cell k (after_for
 pub foreign-contents : (k : List ℕ) (v : Version) (w : World) → Keeps w → key_lt k bound ≡ true → contents (foreign_at k v w).ranges ≡ put_cell k (after_foreign v) (contents w.ranges)
 foreign-contents k v w h low = contents-put k (after_foreign v) [] w.ranges h.tiled (least k) low
 
-and_false : (t : Bool) → (t && false) ≡ false
-and_false true = refl
-and_false false = refl
-
 pub ends-low : (s : List ℕ) (rs : List Range) → Tiles s rs → key_le s bound ≡ true
 ends-low s [] t = subst (λ z. key_le s z ≡ true) t (le_itself s)
 ends-low s (r ∷ rs) t = le_trans s (end_of r) bound (le_of_lt s (end_of r) t.0.some) (ends-low (end_of r) rs t.1)
@@ -69,7 +66,7 @@ ends-low s (r ∷ rs) t = le_trans s (end_of r) bound (le_of_lt s (end_of r) t.0
 pub none-written : (k : List ℕ) (v : Version) (s : List ℕ) (rs : List Range) → key_lt k bound ≡ false → Tiles s rs → written k v rs ≡ rs
 none-written k v s [] high t = refl
 none-written k v s (r ∷ rs) high t =
-    let out : holds_key k r ≡ false = ap (λ b. key_le (start_of r) k && b) (not_lt_of_le (end_of r) k (le_trans (end_of r) bound k (ends-low (end_of r) rs t.1) (le_of_not_lt k bound high))) ∙ and_false (key_le (start_of r) k) in
+    let out : holds_key k r ≡ false = ap (λ b. key_le (start_of r) k && b) (not_lt_of_le (end_of r) k (le_trans (end_of r) bound k (ends-low (end_of r) rs t.1) (le_of_not_lt k bound high))) ∙ and-false (key_le (start_of r) k) in
     ap (λ b. cond b (record r { cells = put_cell k (after_foreign v) r.cells } ∷ rs) (r ∷ written k v rs)) out
     ∙ ap (λ qs. r ∷ qs) (none-written k v (end_of r) rs high t.1)
 

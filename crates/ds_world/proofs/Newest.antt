@@ -3,6 +3,7 @@ use Rattle.std.proofs.Common.{◌≡◌, ℕ, ◌≤◌, ◌<◌, Bool, true, fa
 use Rattle.std.specs.List.{filter, find}
 use Rattle.std.proofs.lemmas.List.{reverse-append}
 use Rattle.std.proofs.lemmas.List.Elements.{filter-append}
+use Rattle.std.proofs.Math.Bool.{and-false}
 use Rattle.ds_base.specs.Order.{key_lt, key_le}
 use Rattle.ds_base.specs.declared.value.Dir.TheVariants.{Forward}
 use Rattle.ds_base.proofs.OrderedFacts.{le_of_lt, le_trans, lt_le_trans, not_le_of_lt, not_lt_of_le}
@@ -16,10 +17,6 @@ use Rattle.ds_rule.specs.Pieces.{Each}
 use Rattle.ds_rule.specs.World.{Range, start_of, end_of, Fits, Tiles, holds_key}
 use Rattle.ds_rule.proofs.Lasts.{last-cases}
 use Rattle.ds_rule.proofs.Routes.{le_itself}
-
-and_false : (t : Bool) → (t && false) ≡ false
-and_false true = refl
-and_false false = refl
 
 containing-append : (k : List ℕ) (xs ys : List RangeDesc) → containing k (xs ++ ys) ≡ containing k xs ++ containing k ys
 containing-append k xs ys = filter-append (λ d. contains Forward k d.span) xs ys
@@ -91,7 +88,7 @@ none-before k m (d ∷ ds) low all =
 none-after : (k m : List ℕ) (ds : List RangeDesc) → key_le m k ≡ true → Each (λ d. key_le d.span.end m ≡ true) ds → containing k ds ≡ []
 none-after k m [] from all = refl
 none-after k m (d ∷ ds) from all =
-    let out : contains Forward k d.span ≡ false = ap (λ t. key_le d.span.start k && t) (not_lt_of_le d.span.end k (le_trans d.span.end m k all.0 from)) ∙ and_false (key_le d.span.start k) in
+    let out : contains Forward k d.span ≡ false = ap (λ t. key_le d.span.start k && t) (not_lt_of_le d.span.end k (le_trans d.span.end m k all.0 from)) ∙ and-false (key_le d.span.start k) in
     ap (λ t. cond t (d ∷ containing k ds) (containing k ds)) out ∙ none-after k m ds from all.1
 
 -- ranges from m on keep their own, where what was made ends there

@@ -1,5 +1,6 @@
 -- What a split keeps of the ranges.
 use Rattle.std.proofs.Common.{◌≡◌, ℕ, ◌+◌, ◌≤◌, ◌<◌, Bool, true, false, cond, not, ◌&&◌, ◌||◌, ◌==◌, List, [], ◌∷◌, ◌++◌, refl, sym, ap, ◌∙◌, subst, append_assoc, ne_eqb, arith}
+use Rattle.std.proofs.Math.Bool.{and-false}
 use Rattle.ds_base.specs.Order.{key_lt, key_le}
 use Rattle.ds_base.specs.declared.value.Dir.TheVariants.{Forward}
 use Rattle.ds_base.proofs.OrderedFacts.{le_of_lt, le_trans, not_le_of_lt, not_lt_of_le}
@@ -17,10 +18,6 @@ use Rattle.ds_rule.proofs.Routes.{le_itself}
 use Rattle.ds_world.proofs.Cells.{ascends-filter, both-parts, high_cells, inside-high, inside-low, low_cells}
 use Rattle.ds_world.proofs.Newest.{id-known, last-beside, newest-after, newest-made, rise-one}
 use Rattle.ds_world.proofs.Stretches.{IsStretch, Keeping, has_id, infos, nothing, other_id}
-
-and_false : (t : Bool) → (t && false) ≡ false
-and_false true = refl
-and_false false = refl
 
 -- no range has a new id
 new-id : (ds : List RangeDesc) (s : List ℕ) (rs : List Range) (n : ℕ) → greatest_id ds < n → Tiles s rs → Each (IsNewest ds) rs → has_id n (infos rs) ≡ false
@@ -45,7 +42,7 @@ left-made id k r q h =
     ∙ ap (λ t. (left_part k r).info.desc ∷ cond t ((right_part id k r).info.desc ∷ []) []) right
 
 not-left : (k : List ℕ) (r : Range) (q : List ℕ) → key_le k q ≡ true → contains Forward q (left_part k r).info.desc.span ≡ false
-not-left k r q from = ap (λ t. key_le (start_of r) q && t) (not_lt_of_le k q from) ∙ and_false (key_le (start_of r) q)
+not-left k r q from = ap (λ t. key_le (start_of r) q && t) (not_lt_of_le k q from) ∙ and-false (key_le (start_of r) q)
 
 right-made : (id : ℕ) (k : List ℕ) (r : Range) (q : List ℕ) → holds_key q (right_part id k r) ≡ true → containing q (parts id k r) ≡ (right_part id k r).info.desc ∷ []
 right-made id k r q h =
