@@ -14,12 +14,14 @@ use Rattle.ds_rule.specs.Cause.{CauseOf, WholeCauseOf}
 use Rattle.ds_rule.specs.Clauses.{Stands}
 use Rattle.ds_rule.specs.Gathered.{Gathered}
 use Rattle.ds_rule.specs.Journal.{Happening, Did as Stepped, Runs, Accepted, accepted}
-use Rattle.ds_rule.specs.Law.{Did, IsGiven, IsPlainFor, IsQuiet, LeadsTo, MayAct}
+use Rattle.ds_rule.specs.Keeping.{Keeps}
+use Rattle.ds_rule.specs.Law.{Did, IsGiven, IsPlainFor, IsQuiet, IsReading, LeadsTo, MayAct}
 use Rattle.ds_rule.specs.Path.{Path, IsOf, LosesOnly}
 use Rattle.ds_rule.specs.Pieces.{Each}
 use Rattle.ds_rule.specs.Plain.{is_pending}
 use Rattle.ds_rule.specs.StandsFor.{Ready}
 use Rattle.ds_rule.specs.Steady.{Steady}
+use Rattle.ds_law.proofs.NeverEnded.{EndsNone}
 use Rattle.ds_law.proofs.Recorded.{Pends}
 use Rattle.ds_law.proofs.Steadiness.{quiet-steady}
 use Rattle.ds_law.proofs.WholeGathered.{whole-gathered}
@@ -28,7 +30,7 @@ use Rattle.ds_send.specs.Sent.{DidOnce, IsWholeSendable, PlainIf, is_whole}
 use Rattle.ds_replay.specs.Causes.{BatchCause, SentCause}
 use Rattle.ds_replay.specs.Comes.{MayCome}
 use Rattle.ds_replay.proofs.Blocks.{never-rose, quiet-steps, steps-play, steps-accepted, one-served}
-use Rattle.ds_replay.proofs.Coming.{Undisturbed, comes-each, comes-whole}
+use Rattle.ds_replay.proofs.Coming.{Undisturbed, comes-each, comes-whole, reads-endless, whole-endless}
 
 -- what a batch's block was, for a store
 pub record Came (budget : ℕ) (a mid : Stands) (asks : Asks) (p : Store) (b : Batch) (q : Asking) (steps : List JournalStep) (o : Outcome) : Type 0 where
@@ -59,7 +61,7 @@ gather-whole : (budget : ℕ) (asks : Asks) (b : Batch) (q : Asking) (x y : Stan
 gather-whole budget asks b q x y got path steps (Outcome.Ok rs) is one send same added c = (
   q,
   is,
-  subst (λ xs. Gathered xs q.items rs) same (whole-gathered q x y rs got path send.rising send.proper c.0 c.1),
+  subst (λ xs. Gathered xs q.items rs) same (whole-gathered q x y rs got path send.unlimited send.rising send.proper c.0 c.1),
   subst (λ t. InOnePiece t steps) (sym one) (one-served q rs steps path.added added c.1),
 )
 gather-whole budget asks b q x y got path steps (Outcome.Illegal i) is one send same added c = tt
@@ -94,25 +96,25 @@ block-plays q x y got steps none still bl =
 block-got : (q : Asking) (x y : Stands) (got : List Accepted) (steps : List JournalStep) → Block q x y got steps → got ≡ accepted_in steps
 block-got q x y got steps bl = sym bl.path.gives ∙ ap accepted bl.added ∙ steps-accepted steps
 
-undisturbed : (b : Batch) (q : Asking) (x y : Stands) (p : Store) (got : List Accepted) (steps : List JournalStep) → x.lost ≡ 0 → y.lost ≡ 0 → Steady x.world → Ready x p b q → Pends q.head.txn p.txn → (bl : Block q x y got steps) → Undisturbed b q x y p got bl.path
-undisturbed b q x y p got steps none still steady ready pend bl =
-    record { quiet = subst (Each IsQuiet) (sym bl.added) (block-quiet q x y got steps none still bl); steady = steady; ready = ready; pends = pend }
+undisturbed : (b : Batch) (q : Asking) (x y : Stands) (p : Store) (got : List Accepted) (steps : List JournalStep) → x.lost ≡ 0 → y.lost ≡ 0 → Steady x.world → Ready x p b q → Pends q.head.txn p.txn → Each EndsNone q.items → (bl : Block q x y got steps) → Undisturbed b q x y p got bl.path
+undisturbed b q x y p got steps none still steady ready pend endless bl =
+    record { quiet = subst (Each IsQuiet) (sym bl.added) (block-quiet q x y got steps none still bl); steady = steady; ready = ready; pends = pend; endless = endless }
 
-block-steady : (q : Asking) (x y : Stands) (got : List Accepted) (steps : List JournalStep) → x.lost ≡ 0 → y.lost ≡ 0 → Steady x.world → Block q x y got steps → Steady y.world
-block-steady q x y got steps none still steady bl =
-    quiet-steady (map Stepped steps) x.world y.world (block-quiet q x y got steps none still bl) (subst (λ hs. Runs x.world hs y.world) bl.added bl.path.runs) steady
+block-steady : (q : Asking) (x y : Stands) (got : List Accepted) (steps : List JournalStep) → x.lost ≡ 0 → y.lost ≡ 0 → Keeps x.world → Steady x.world → Block q x y got steps → Steady y.world
+block-steady q x y got steps none still keeps steady bl =
+    quiet-steady (map Stepped steps) x.world y.world (block-quiet q x y got steps none still bl) (subst (λ hs. Runs x.world hs y.world) bl.added bl.path.runs) keeps steady
 
 -- sent request by request
-pub came-each : (budget : ℕ) (asks : Asks) (b : Batch) (q : Asking) (x y : Stands) (p : Store) (steps : List JournalStep) (o : Outcome) → x.past ≡ [] → x.lost ≡ 0 → y.lost ≡ 0 → y.past ≡ map Stepped steps → first_illegal b ≡ None → asking asks.asker b ≡ Some q → is_whole b ≡ false → 0 < budget → IsGiven o → Steady x.world → Ready x p b q → Pends q.head.txn p.txn → Did budget q x y o → IsPlainFor x y b q o → Came budget x y asks p b q steps o
-came-each budget asks b q x y p steps o start none still past kept is apart tries given steady ready pend did plain =
+pub came-each : (budget : ℕ) (asks : Asks) (b : Batch) (q : Asking) (x y : Stands) (p : Store) (steps : List JournalStep) (o : Outcome) → x.past ≡ [] → x.lost ≡ 0 → y.lost ≡ 0 → y.past ≡ map Stepped steps → first_illegal b ≡ None → asking asks.asker b ≡ Some q → is_whole b ≡ false → IsReading b q → 0 < budget → IsGiven o → Steady x.world → Ready x p b q → Pends q.head.txn p.txn → Did budget q x y o → IsPlainFor x y b q o → Came budget x y asks p b q steps o
+came-each budget asks b q x y p steps o start none still past kept is apart reading tries given steady ready pend did plain =
     let added = sym (did.path.grown ∙ ap (λ hs. hs ++ did.path.added) start) ∙ past in
     let bl : Block q x y did.got steps = record { path = did.path; added = added } in
     record {
       lead = plain p ready;
       plays = block-plays q x y did.got steps none still bl;
       gathers = gather-each budget asks b q did.path.added did.got steps o is apart (block-got q x y did.got steps bl) did.cause;
-      comes = comes-each budget b q x y p o did tries given (undisturbed b q x y p did.got steps none still steady ready pend bl);
-      steady = block-steady q x y did.got steps none still steady bl;
+      comes = comes-each budget b q x y p o did tries given (undisturbed b q x y p did.got steps none still steady ready pend (reads-endless q.items reading.reads) bl);
+      steady = block-steady q x y did.got steps none still ready.stands.keeps steady bl;
       cause = subst (λ i. BatchCause budget i asks p b steps o) (sym kept) (
         q,
         is,
@@ -133,8 +135,8 @@ came-whole budget asks b q x y p steps o start none still past kept is one send 
       lead = law.0;
       plays = block-plays q x y did.got steps none still bl;
       gathers = gather-whole budget asks b q x y did.got did.path steps o is one send (block-got q x y did.got steps bl) added did.cause;
-      comes = comes-whole budget b q x y p o did tries given (undisturbed b q x y p did.got steps none still steady ready pend bl);
-      steady = block-steady q x y did.got steps none still steady bl;
+      comes = comes-whole budget b q x y p o did tries given (undisturbed b q x y p did.got steps none still steady ready pend (whole-endless q.items send.endless) bl);
+      steady = block-steady q x y did.got steps none still ready.stands.keeps steady bl;
       cause = subst (λ i. BatchCause budget i asks p b steps o) (sym kept)
           (q, is, subst (λ w. SentCause w budget p q steps o) (sym one) (subst (λ hs. WholeCauseOf budget q hs o) added did.cause, law.1));
     }

@@ -29,6 +29,7 @@ use Rattle.ds_script.specs.PlainRuns.{PlainTurn}
 use Rattle.ds_send.specs.Batch as Sends
 use Rattle.ds_send.specs.Sent.{Ruled, Sent, SentBy, Plain, PlainIf, IsOpenFor, is_whole}
 use Rattle.ds_send.proofs.Meaning.{single-sendable}
+use Rattle.ds_send.proofs.Readings.{reading}
 use Rattle.ds_replay.specs.Asked.{AskedBy, begun_block}
 use Rattle.ds_replay.specs.Built.{is_sent}
 use Rattle.ds_replay.proofs.Answering.{Came, came-each, came-whole, came-illegal}
@@ -50,7 +51,7 @@ pub record Owes (a : Stands) (t : Option Asker) (p : Store) (b : Batch) (asks : 
 came-legal : (w : Bool) (a mid c : Stands) (budget : ℕ) (t : Option Asker) (p : Store) (b : Batch) (asks : Asks) (q : Asking) (steps : List JournalStep) (o : Outcome) → 0 < budget → IsGiven o → Sends.is_built b ≡ true → Owes a t p b asks → first_illegal b ≡ None → is_whole b ≡ w → asking t b ≡ Some q → mid.past ≡ map Stepped steps → mid.lost ≡ 0 → SentBy w budget q (begun_block a t b) mid o → PlainIf w (begun_block a t b) mid b q o → Came budget (begun_block a t b) mid asks p b q steps o
 came-legal false a mid c budget t p b asks q steps o tries given built owes none w is past still sent plain =
     came-each budget asks b q (begun_block a t b) mid p steps o refl owes.none_lost still past none (ap (λ x. asking x b) owes.asker ∙ is) w
-    tries given owes.steady (owes.ready q is) (owes.pends q is) sent plain
+    (reading t b q (legal_of b none) built w is) tries given owes.steady (owes.ready q is) (owes.pends q is) sent plain
 came-legal true a mid c budget t p b asks q steps o tries given built owes none w is past still sent plain =
     came-whole budget asks b q (begun_block a t b) mid p steps o refl owes.none_lost still past none (ap (λ x. asking x b) owes.asker ∙ is) w
     (single-sendable t b q (legal_of b none) built w is) tries given owes.steady (owes.ready q is) (owes.pends q is) (owes.may (legal_of b none) w q is) sent plain

@@ -1,5 +1,5 @@
 -- The steps of a batch leave the count of events.
-use Rattle.std.proofs.Common.{◌≡◌, ℕ, Bool, true, false, List, [], ◌∷◌, ◌++◌, map, Option, Some, None, inl, inr, find, refl, sym, ap, ◌∙◌, subst}
+use Rattle.std.proofs.Common.{◌≡◌, ℕ, Bool, true, false, List, [], ◌∷◌, ◌++◌, map, Option, Some, None, inl, inr, refl, sym, ap, ◌∙◌, subst}
 use Rattle.ds_desc.specs.declared.meta.Looked.TheVariants as Looked
 use Rattle.ds_kind.specs.declared.batch.Batch.{Batch}
 use Rattle.ds_kind.specs.declared.batch.Piece.{Piece}
@@ -11,31 +11,20 @@ use Rattle.ds_rule.specs.declared.answer.Outcome.{Outcome}
 use Rattle.ds_rule.specs.declared.journal.Entry.{Entry}
 use Rattle.ds_rule.specs.declared.journal.JournalStep.{JournalStep}
 use Rattle.ds_rule.specs.declared.journal.JournalStep.TheVariants.{Look, Send}
-use Rattle.ds_rule.specs.Asking.{Asking, Made, Gives, Fails}
+use Rattle.ds_rule.specs.Asking.{Asking}
 use Rattle.ds_rule.specs.Clauses.{Stands}
-use Rattle.ds_rule.specs.Deliver.{Stop, world_made, world_at, deliver_world_to, deliver_world, served, stops}
+use Rattle.ds_rule.specs.Deliver.{deliver_world}
 use Rattle.ds_rule.specs.Journal.{Did as Stepped, Does, Runs, Accepted}
 use Rattle.ds_rule.specs.Path.{Path}
-use Rattle.ds_rule.specs.World.{World, Range, has_id}
+use Rattle.ds_rule.specs.World.{World}
 use Rattle.ds_rule.proofs.Passing.{Told, told}
+use Rattle.ds_world.proofs.Delivers.{deliver-leaves}
 use Rattle.ds_send.specs.Sent.{Ruled, Sent, SentBy, IsOpenFor, is_whole}
 use Rattle.ds_replay.specs.Asked.{AskedBy, begun_block}
 use Rattle.ds_replay.proofs.Readiness.{is-asked}
 
-made-count : (w : World) (p : Piece) (m : Made) → (world_made w p m).count ≡ w.count
-made-count w p (Fails f) = refl
-made-count w p (Gives cells ws rs) = refl
-
-at-count : (w : World) (p : Piece) (r : Range) (s : Option Stop) → (world_at w p r s).count ≡ w.count
-at-count w p r (Some a) = refl
-at-count w p r None = made-count w p (served p r)
-
-to-count : (w : World) (n : ℕ) (p : Piece) (o : Option Range) → (deliver_world_to w n p o).count ≡ w.count
-to-count w n p None = refl
-to-count w n p (Some r) = at-count w p r (stops w n p r)
-
 deliver-count : (w : World) (n : ℕ) (p : Piece) → (deliver_world w n p).count ≡ w.count
-deliver-count w n p = to-count w n p (find (has_id p.range) w.ranges)
+deliver-count w n p = deliver-leaves (λ v. v.count) (λ id cells v. refl) (λ ts v. refl) (λ k v. refl) (λ k m v. refl) w n p
 
 told-count : (w : World) (s : JournalStep) (v : World) → Told w s v → v.count ≡ w.count
 told-count w (Look k d (Looked.Rows infos)) v h = ap (λ z. z.count) h.1
