@@ -12,7 +12,8 @@ use Rattle.std.specs.declared.cmp.Ordering.TheVariants.{Less, Equal, Greater}
 use Rattle.std.proofs.lemmas.Cmp.{tied_itself, nat_list_cmp_total}
 use Rattle.lru.specs.LruCache.{promoted}
 use Rattle.ds_base.specs.Order.{key_cmp, key_lt, key_le, Extent}
-use Rattle.ds_base.proofs.KeyOrder.{key_le_lt-trans, key_lt-trans, key_le-not_lt, key_le-antisymm}
+use Rattle.ds_base.proofs.KeyOrder.{key_le_lt-trans, key_le-not_lt}
+use Rattle.ds_base.proofs.OrderedFacts.{lt_le_trans}
 use Rattle.ds_base.specs.declared.value.Dir.{Dir}
 use Rattle.ds_base.specs.declared.value.Dir.TheVariants.{Forward, Reverse}
 use Rattle.ds_base.proofs.SmallFacts.{and_both, and_first, and_second, some_none, some_same}
@@ -106,13 +107,6 @@ index_without s i es m r d h there now = record {
 }
 
 -- ---- the entry that contains a key, through the index
-
-lt_le_trans : (a b c : List ℕ) → key_lt a b ≡ true → key_le b c ≡ true → key_lt a c ≡ true
-lt_le_trans a b c p q =
-    (elim (key_lt b c) as (λ t. key_lt b c ≡ t → key_lt a c ≡ true) [
-      | true ↦ λ e. key_lt-trans a b c p e
-      | false ↦ λ e. subst (λ w. key_lt a w ≡ true) (key_le-antisymm b c q e) p
-    ]) refl
 
 -- a span that starts before k, and one that contains k
 before_overlap : (d : Dir) (k a : List ℕ) (t : Extent) → before d a k ≡ true → contains d k t ≡ true → key_lt a t.end ≡ true

@@ -3,19 +3,19 @@ use Rattle.std.proofs.Common.{◌≡◌, suc, ◌&&◌, cond, true, List, [], �
 use Rattle.ds_base.specs.Order.{Extent, key_le, max_key, min_key}
 use Rattle.ds_base.specs.declared.value.Dir.{Dir}
 use Rattle.ds_base.specs.declared.value.Dir.TheVariants.{Forward, Reverse}
+use Rattle.ds_base.proofs.KeyFacts.{max_first, max_second, min_first, min_second}
 use Rattle.ds_base.proofs.OrderedFacts.{le_trans, not_lt_of_le}
 use Rattle.ds_base.proofs.SmallFacts.{and_first, and_second}
 use Rattle.ds_kind.specs.Asks.{has_proper_span}
 use Rattle.ds_kind.specs.Request.{cut_to, span_of}
 use Rattle.ds_kind.specs.declared.batch.Item.{Item}
 use Rattle.ds_cover.specs.Cuts.{cut_item, cut_by, within, cut_items, rest_items}
-use Rattle.ds_cover.proofs.Cutting.{max_right, min_right}
 use Rattle.ds_cut.specs.declared.fate.Fate.{Fate}
 use Rattle.ds_cut.specs.declared.fate.Fate.TheVariants.{Cut, Left}
 use Rattle.ds_cut.specs.Fates.{far, lies_past, IsFate, AreFates, all_cut, all_left}
 use Rattle.ds_cut.specs.Within.{stays_within}
 use Rattle.ds_cut.proofs.Seeking.{greater}
-use Rattle.ds_cut.proofs.Whole.{lesser, min_low, max_high, cut_so, whole, cut_whole, after_none, before_none}
+use Rattle.ds_cut.proofs.Whole.{lesser, cut_so, whole, cut_whole, after_none, before_none}
 
 -- ---- in the range
 
@@ -32,10 +32,10 @@ inside d span i proper h =
 -- ---- past it
 
 past_low : (span x : Extent) → key_le span.end x.start ≡ true → key_le (min_key span.end x.end) (max_key span.start x.start) ≡ true
-past_low span x h = le_trans (min_key span.end x.end) span.end (max_key span.start x.start) (min_low span.end x.end) (le_trans span.end x.start (max_key span.start x.start) h (max_right span.start x.start))
+past_low span x h = le_trans (min_key span.end x.end) span.end (max_key span.start x.start) (min_first span.end x.end) (le_trans span.end x.start (max_key span.start x.start) h (max_second span.start x.start))
 
 past_high : (span x : Extent) → key_le x.end span.start ≡ true → key_le (min_key span.end x.end) (max_key span.start x.start) ≡ true
-past_high span x h = le_trans (min_key span.end x.end) x.end (max_key span.start x.start) (min_right span.end x.end) (le_trans x.end span.start (max_key span.start x.start) h (max_high span.start x.start))
+past_high span x h = le_trans (min_key span.end x.end) x.end (max_key span.start x.start) (min_second span.end x.end) (le_trans x.end span.start (max_key span.start x.start) h (max_first span.start x.start))
 
 nothing_inside : (span : Extent) (i : Item) → key_le (min_key span.end (span_of i.request).end) (max_key span.start (span_of i.request).start) ≡ true → cut_so i (max_key span.start (span_of i.request).start) (min_key span.end (span_of i.request).end) ≡ []
 nothing_inside span i h =

@@ -1,15 +1,16 @@
 -- Where nothing reaches past the span on the far side, all is cut and nothing is left.
 use Rattle.std.proofs.Common.{◌≡◌, ℕ, true, false, cond, List, [], ◌∷◌, ◌++◌, refl, sym, ap, ◌∙◌, subst, Option}
+use Rattle.ds_base.proofs.KeyFacts.{max_first, min_first}
 use Rattle.ds_base.proofs.KeyOrder.{below-after, key_le-antisymm}
-use Rattle.ds_base.proofs.OrderedFacts.{le_of_lt, le_trans, lt_le_trans, not_lt_of_le}
+use Rattle.ds_base.proofs.OrderedFacts.{le_trans, lt_le_trans, not_lt_of_le}
 use Rattle.ds_base.proofs.SmallFacts.{and_first, and_second}
 use Rattle.ds_base.specs.Order.{Extent, key_lt, key_le, after, max_key, min_key}
 use Rattle.ds_base.specs.declared.value.Dir.{Dir}
 use Rattle.ds_base.specs.declared.value.Dir.TheVariants.{Forward, Reverse}
 use Rattle.ds_desc.specs.declared.desc.RangeDesc.{RangeDesc}
-use Rattle.ds_kind.specs.Asks.{is_proper, has_proper_span}
-use Rattle.ds_kind.specs.Reach.{Reach, At, Over, extent_of}
-use Rattle.ds_kind.specs.Request.{cut_to, reach_of, span_of}
+use Rattle.ds_kind.proofs.RequestFacts.{proper_some}
+use Rattle.ds_kind.specs.Asks.{has_proper_span}
+use Rattle.ds_kind.specs.Request.{cut_to, span_of}
 use Rattle.ds_kind.specs.declared.batch.Head.{Head}
 use Rattle.ds_kind.specs.declared.batch.Item.{Item}
 use Rattle.ds_kind.specs.declared.batch.Part.{Part}
@@ -17,7 +18,7 @@ use Rattle.ds_kind.specs.declared.batch.Piece.{Piece}
 use Rattle.ds_cover.specs.Cuts.{cut_item, cut_by, within, from, up_to, cut_items, rest_items, AllNear}
 use Rattle.ds_cover.specs.Items.{AreProper}
 use Rattle.ds_cover.proofs.Cutting.{cut-near}
-use Rattle.ds_cover.proofs.Tests.{le_itself, same_test}
+use Rattle.ds_cover.proofs.Tests.{same_test}
 use Rattle.ds_cover.proofs.Tracing.{uncut}
 use Rattle.ds_cut.specs.Pieces.{piece_with, cut_piece, rest_part, ContainsSeek, CutsOff}
 use Rattle.ds_cut.specs.Within.{stays_within, none_past}
@@ -34,32 +35,14 @@ lesser a b h =
       | false ↦ λ e. key_le-antisymm b a h e
     ] refl
 
-pub min_low : (a b : List ℕ) → key_le (min_key a b) a ≡ true
-min_low a b =
-    elim (key_lt b a) as (λ t. key_lt b a ≡ t → key_le (cond t b a) a ≡ true) [
-      | true ↦ λ e. le_of_lt b a e
-      | false ↦ λ e. le_itself a
-    ] refl
-
-pub max_high : (a b : List ℕ) → key_le a (max_key a b) ≡ true
-max_high a b =
-    elim (key_lt a b) as (λ t. key_lt a b ≡ t → key_le a (cond t b a) ≡ true) [
-      | true ↦ λ e. le_of_lt a b e
-      | false ↦ λ e. le_itself a
-    ] refl
-
 -- one item
-
-some_of : (r : Reach) → is_proper r ≡ true → key_lt (extent_of r).start (extent_of r).end ≡ true
-some_of (At k) h = below-after k
-some_of (Over s e) h = h
 
 abbrev pub cut_so : Item → List ℕ → List ℕ → List Item
 cut_so i s e = cond (key_lt s e) (record i { request = cut_to s e i.request } ∷ []) []
 
 pub whole : (i : Item) → has_proper_span i.request ≡ true → cut_so i (span_of i.request).start (span_of i.request).end ≡ i ∷ []
 whole i proper =
-    ap (λ t. cond t (record i { request = cut_to (span_of i.request).start (span_of i.request).end i.request } ∷ []) []) (some_of (reach_of i.request) proper)
+    ap (λ t. cond t (record i { request = cut_to (span_of i.request).start (span_of i.request).end i.request } ∷ []) []) (proper_some i.request proper)
     ∙ ap (λ r. record i { request = r } ∷ []) (sym (uncut i.request))
 
 pub cut_whole : (span : Extent) (i : Item) → has_proper_span i.request ≡ true → key_le span.start (span_of i.request).start ≡ true → key_le (span_of i.request).end span.end ≡ true → cut_item (within span) i ≡ i ∷ []
@@ -72,13 +55,13 @@ pub after_none : (span : Extent) (i : Item) → key_le (span_of i.request).end s
 after_none span i high =
     let x = span_of i.request in
     let m = max_key span.end x.start in
-    ap (λ t. cond t (record i { request = cut_to m x.end i.request } ∷ []) []) (not_lt_of_le x.end m (le_trans x.end span.end m high (max_high span.end x.start)))
+    ap (λ t. cond t (record i { request = cut_to m x.end i.request } ∷ []) []) (not_lt_of_le x.end m (le_trans x.end span.end m high (max_first span.end x.start)))
 
 pub before_none : (span : Extent) (i : Item) → key_le span.start (span_of i.request).start ≡ true → cut_item (up_to span.start) i ≡ []
 before_none span i low =
     let x = span_of i.request in
     let m = min_key span.start x.end in
-    ap (λ t. cond t (record i { request = cut_to x.start m i.request } ∷ []) []) (not_lt_of_le m x.start (le_trans m span.start x.start (min_low span.start x.end) low))
+    ap (λ t. cond t (record i { request = cut_to x.start m i.request } ∷ []) []) (not_lt_of_le m x.start (le_trans m span.start x.start (min_first span.start x.end) low))
 
 -- items
 

@@ -1,5 +1,5 @@
 -- The range at a place, changed.
-use Rattle.std.proofs.Common.{◌≡◌, ℕ, zero, suc, ◌+◌, ◌<◌, Bool, true, false, cond, List, [], ◌∷◌, ◌++◌, Some, refl, sym, ap, ◌∙◌, subst, length, drop, take, get_or, arith}
+use Rattle.std.proofs.Common.{◌≡◌, ℕ, zero, suc, true, false, cond, List, [], ◌∷◌, Some, refl, sym, ap, ◌∙◌, subst, drop}
 use Rattle.std.specs.List.{slice_get, insert, remove}
 use Rattle.std.proofs.Math.ListN.{set}
 use Rattle.ds_base.proofs.SmallFacts.{some_same}

@@ -1,5 +1,5 @@
 -- What each event makes of the ranges, and that they keep what they keep.
-use Rattle.std.proofs.Common.{◌≡◌, ℕ, zero, suc, ◌+◌, ◌<◌, max, Bool, true, false, cond, ◌&&◌, List, [], ◌∷◌, ◌++◌, Some, None, refl, sym, ap, ◌∙◌, subst, length, drop, not, nat_eq, arith}
+use Rattle.std.proofs.Common.{◌≡◌, ℕ, zero, suc, ◌+◌, ◌<◌, max, true, false, cond, ◌&&◌, List, [], ◌∷◌, ◌++◌, Some, None, refl, sym, ap, ◌∙◌, subst, length, drop, not, nat_eq, arith}
 use Rattle.std.specs.List.{insert, remove, slice_get}
 use Rattle.std.specs.Cmp.Lexicographic.{pointwise}
 use Rattle.std.proofs.Math.ListN.{set}
@@ -20,7 +20,7 @@ use Rattle.ds_rule.specs.Pieces.{Each}
 use Rattle.ds_rule.specs.Shifts.{Change, behind, can_join, can_lease, can_move, can_split, change_at, foreign_at, joined, lease_in, lease_to, left_part, merge_at, merge_in, move_in, move_to, right_part, shifted, split_at, split_in, unchanged, with_lease, with_nodes}
 use Rattle.ds_rule.specs.World.{World, Range, Tiles, start_of, end_of, holds_key, replaced}
 use Rattle.ds_rule.proofs.Delivered.{same_descs}
-use Rattle.ds_rule.proofs.Standing.{least}
+use Rattle.ds_rule.proofs.Routes.{least}
 use Rattle.ds_world.proofs.Foreign.{foreign-keeps}
 use Rattle.ds_world.proofs.Shifted.{lease_descs, lease_keeps, merge_keeps, move_keeps, split_keeps}
 use Rattle.ds_ranges.specs.Layout.{Became, laid, layout, own_descs}

@@ -1,5 +1,6 @@
 pub mod Changing
 pub mod Events
+pub mod Examples
 pub mod Finding
 pub mod Newests
 pub mod Parting

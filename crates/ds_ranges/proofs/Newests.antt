@@ -1,5 +1,5 @@
 -- Where the newest descriptor of a range stands.
-use Rattle.std.proofs.Common.{◌≡◌, ℕ, zero, suc, ◌<◌, Bool, true, false, cond, List, [], ◌∷◌, Some, None, inl, inr, refl, sym, ap, ◌∙◌, subst, arith}
+use Rattle.std.proofs.Common.{◌≡◌, ℕ, zero, suc, ◌<◌, true, false, cond, List, [], ◌∷◌, Some, inl, inr, sym, ap, ◌∙◌, subst, arith}
 use Rattle.std.specs.List.{slice_get}
 use Rattle.ds_base.specs.declared.value.Dir.TheVariants.{Forward}
 use Rattle.ds_base.proofs.SmallFacts.{some_same}
@@ -10,7 +10,7 @@ use Rattle.ds_desc.specs.declared.desc.RangeDesc.{RangeDesc}
 use Rattle.ds_lineage.specs.Last.{IsLastAt, IsNewestAt}
 use Rattle.ds_rule.specs.Keeping.{IsNewest}
 use Rattle.ds_rule.specs.World.{Range}
-use Rattle.ds_rule.proofs.Recorded.{last-cases}
+use Rattle.ds_rule.proofs.Lasts.{last-cases}
 use Rattle.ds_world.proofs.Newest.{all-last}
 
 -- nothing newer comes after the last

@@ -1,5 +1,5 @@
 -- The rows of a lookup are a part of the ranges.
-use Rattle.std.proofs.Common.{◌≡◌, ℕ, zero, suc, ◌+◌, ◌-◌, ◌<◌, ◌≤◌, Bool, true, false, cond, not, List, [], ◌∷◌, ◌++◌, Some, refl, sym, ap, ◌∙◌, subst, length, get_or, map, take, drop, reverse, arith}
+use Rattle.std.proofs.Common.{◌≡◌, ℕ, zero, suc, ◌+◌, ◌-◌, ◌<◌, ◌≤◌, Bool, true, false, cond, List, [], ◌∷◌, ◌++◌, Some, refl, sym, ap, ◌∙◌, subst, length, get_or, map, take, drop, reverse, arith}
 use Rattle.std.specs.List.{slice_get}
 use Rattle.std.proofs.lemmas.Bool.{and_left}
 use Rattle.std.proofs.lemmas.List.{drop_all, take_all, length-reverse, length-take, reverse-append, take_more, take_rest, get_or-reverse, map_push}
@@ -13,7 +13,7 @@ use Rattle.ds_desc.specs.Contains.{contains}
 use Rattle.ds_rule.specs.Pieces.{Each}
 use Rattle.ds_rule.specs.World.{Range, Tiles, start_of, end_of, from_first, holds_key, in_order}
 use Rattle.ds_rule.proofs.Eachs.{each-append}
-use Rattle.ds_rule.proofs.Standing.{least}
+use Rattle.ds_rule.proofs.Routes.{least}
 use Rattle.ds_ranges.specs.Places.{IsPoint}
 use Rattle.ds_ranges.proofs.Finding.{lt_of_not_le, out-low}
 

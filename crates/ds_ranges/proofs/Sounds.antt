@@ -1,29 +1,26 @@
 -- What the ranges keep, after each change.
-use Rattle.std.proofs.Common.{◌≡◌, ℕ, zero, suc, ◌+◌, ◌<◌, ◌≤◌, max, Bool, true, false, cond, not, ◌==◌, List, [], ◌∷◌, ◌++◌, map, Option, Some, None, refl, sym, ap, ◌∙◌, subst, length, append_assoc, arith}
-use Rattle.std.specs.List.{list_all, list_any, slice_get}
+use Rattle.std.proofs.Common.{◌≡◌, ℕ, zero, suc, ◌+◌, ◌<◌, max, true, false, not, ◌==◌, List, [], ◌∷◌, ◌++◌, Some, None, refl, sym, ap, ◌∙◌, subst, length, append_assoc, arith}
+use Rattle.std.specs.List.{list_any, slice_get}
 use Rattle.std.proofs.Math.ListN.{set}
 use Rattle.std.proofs.lemmas.Bool.{eqb-false}
 use Rattle.std.proofs.lemmas.List.{length-set, length_push, map-append}
 use Rattle.std.proofs.lemmas.Option.{slice_get_within}
-use Rattle.ds_base.specs.Order.{bound, key_le, key_lt}
-use Rattle.ds_base.specs.declared.value.Dir.TheVariants.{Forward}
+use Rattle.ds_base.specs.Order.{bound, key_lt}
 use Rattle.ds_base.proofs.OrderedFacts.{le_of_not_lt, le_trans}
 use Rattle.ds_base.proofs.SmallFacts.{and_first, and_second, none_some, not_true, or_first, or_second, some_same}
-use Rattle.ds_desc.specs.Contains.{contains}
 use Rattle.ds_desc.specs.Descs.{containing, greatest_id}
 use Rattle.ds_desc.specs.declared.desc.RangeDesc.{RangeDesc}
 use Rattle.ds_lineage.proofs.Lasts.{none-kept}
 use Rattle.ds_lineage.proofs.Walks.{greatest-more}
 use Rattle.ds_rule.specs.Keeping.{Keeps}
 use Rattle.ds_rule.specs.Pieces.{Each}
-use Rattle.ds_rule.specs.Steady.{has_lease, ids_differ}
-use Rattle.ds_rule.specs.World.{World, Range, Tiles, start_of, end_of, holds_key}
+use Rattle.ds_rule.specs.Steady.{ids_differ}
+use Rattle.ds_rule.specs.World.{Range, Tiles, end_of}
 use Rattle.ds_rule.proofs.Eachs.{each-append, each-left, each-right}
 use Rattle.ds_world.proofs.Foreign.{ends-low}
 use Rattle.ds_world.proofs.Stretches.{infos}
 use Rattle.ds_ranges.specs.Layout.{laid, layout, own_descs}
-use Rattle.ds_ranges.specs.Places.{IsFirst}
-use Rattle.ds_ranges.specs.Sound.{IsNoted, IsSound, bare, desc_at, noted_desc}
+use Rattle.ds_ranges.specs.Sound.{IsNoted, IsSound, bare, desc_at}
 use Rattle.ds_ranges.proofs.Finding.{out-low}
 
 -- ---- the list about a place

@@ -16,8 +16,8 @@ use Rattle.ds_rule.specs.Keeping.{IsNewest}
 use Rattle.ds_rule.specs.Pieces.{Each}
 use Rattle.ds_rule.specs.World.{Range, Tiles, start_of, end_of, holds_key}
 use Rattle.ds_rule.proofs.Routes.{le_itself}
-use Rattle.ds_rule.proofs.Steadiness.{first-steady}
 use Rattle.ds_rule.proofs.Tiling.{rises-tiles}
+use Rattle.ds_world.proofs.First.{first-ids, first-leases}
 use Rattle.ds_world.proofs.Foreign.{ends-low}
 use Rattle.ds_world.proofs.Newest.{newest-made, none-before}
 use Rattle.ds_ranges.specs.Layout.{own_descs}
@@ -127,8 +127,8 @@ first-sound rs h leased =
         tiled = t;
         newest = tiles-newest [] [] (ranges_of 1 rs) t;
         rise = tiles-rise [] (ranges_of 1 rs) t;
-        ids = (first-steady rs leased).ids;
-        leases = (first-steady rs leased).leases;
+        ids = first-ids 1 rs;
+        leases = first-leases 1 rs leased;
       };
       own = first-noted (length rs) [] 1 rs refl (omega arith);
       count = omega (arith, top, long);

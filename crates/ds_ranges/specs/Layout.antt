@@ -1,5 +1,5 @@
 -- How the keys lie in ranges: the part of a world that splits, merges, leases and moves change.
-use Rattle.std.specs.Prelude.{◌≡◌, ℕ, List, [], map}
+use Rattle.std.specs.Prelude.{◌≡◌, List, map}
 use Rattle.ds_desc.specs.declared.desc.RangeDesc.{RangeDesc}
 use Rattle.ds_rule.specs.World.{World, Range}
 

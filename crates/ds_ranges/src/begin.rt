@@ -1,8 +1,8 @@
 //! The ranges that a cluster begins with.
 ghost use Rattle.std.specs.Prelude.{◌≡◌, ◌<◌, ◌-◌, ◌^◌, [], ◌∷◌, true, length, IfOk};
-ghost use Rattle.std.specs.List.{range_with_len};
+ghost use Rattle.std.specs.List.{list_all, range_with_len};
 ghost use Rattle.ds_base.specs.Order.{key_lt};
-ghost use Rattle.ds_rule.specs.Begin.{next_start, range_of, ranges_of, rises};
+ghost use Rattle.ds_rule.specs.Begin.{is_leased, next_start, range_of, ranges_of, rises, tiles};
 ghost use Rattle.ds_rule.specs.World.{Tiles};
 ghost use Rattle.ds_ranges.specs.Layout.{own_descs};
 
@@ -21,6 +21,44 @@ fn next_start(alloc: Global, ranges: &[ClusterRange]) -> Result<Key, AllocError>
         [first, ..] => first.start.copy(alloc),
         [] => Key::bound(alloc),
     }
+}
+
+/// Whether the range starts below the start of the first of those after it.
+fn starts_below(range: &ClusterRange, rest: &[ClusterRange]) -> bool
+    ensures { result ≡ key_lt range.now.start (next_start rest.now) }
+{
+    match rest {
+        [first, ..] => range.start < first.start,
+        [] => range.start.is_below_bound(),
+    }
+}
+
+/// Whether these ranges begin at the least key and tile the keys up to the bound.
+pub fn tiles(ranges: &[ClusterRange]) -> bool
+    ensures { result ≡ tiles ranges.now }
+{
+    match ranges {
+        [first, ..] => first.start.bytes().is_empty() && rises(ranges),
+        [] => false,
+    }
+}
+
+fn rises(ranges: &[ClusterRange]) -> bool
+    ensures { result ≡ rises ranges.now }
+{
+    for i in 0..ranges.len() {
+        if !starts_below(&ranges[i], &ranges[i + 1..]) {
+            return false;
+        }
+    }
+    true
+}
+
+/// Whether the lease of each of these ranges is with a node that has a replica.
+pub fn are_leased(ranges: &[ClusterRange]) -> bool
+    ensures { result ≡ list_all is_leased ranges.now }
+{
+    ranges.iter().all(|range| range.nodes.contains(range.lease))
 }
 
 /// A range as it begins: generation 1, lease number 1, and nothing in it.

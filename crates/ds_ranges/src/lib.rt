@@ -12,5 +12,8 @@ mod find;
 mod ranges;
 mod rows;
 mod shape;
+#[cfg(test)]
+mod tests;
 
+pub use begin::{are_leased, tiles};
 pub use ranges::Ranges;

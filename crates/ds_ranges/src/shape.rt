@@ -90,12 +90,12 @@ pub(crate) fn merge_both(
     ensures err { OnErr result ((ranges.new).items ≡ (ranges.old).items) }
     ensures err_descs { OnErr result (lineage.new ≡ lineage.old) }
 {
-    let (count, top) = (lineage.len(), lineage.greatest_id());
+    let (before, greatest) = (lineage.len(), lineage.greatest_id());
     join_at(alloc, ranges.as_slice(), places, lineage, at)?;
     match merge_at(alloc, ranges, at) {
         Ok(()) => Ok(()),
         Err(err) => {
-            lineage.take_back(count, top);
+            lineage.take_back(before, greatest);
             Err(err)
         }
     }

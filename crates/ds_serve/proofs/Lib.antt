@@ -1,4 +1,5 @@
 pub mod Endings
+pub mod Examples
 pub mod Limits
 pub mod Rooms
 pub mod Written

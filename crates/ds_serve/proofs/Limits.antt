@@ -6,6 +6,7 @@ use Rattle.std.proofs.lemmas.List.{length-reverse, reverse-append, map-append}
 use Rattle.std.proofs.lemmas.List.Elements.{filter-append}
 use Rattle.ds_base.specs.Order.{Extent, after, key_lt, key_le, holds}
 use Rattle.ds_base.specs.Ordered.{between}
+use Rattle.ds_base.proofs.KeyFacts.{le_itself}
 use Rattle.ds_base.proofs.KeyOrder.{key_lt-irrefl, key_le-antisymm, after-tight}
 use Rattle.ds_base.proofs.OrderedFacts.{le_trans, le_of_not_lt, not_le_of_lt}
 use Rattle.ds_base.proofs.SmallFacts.{and_first, and_second, append_nil, none_some, some_same}
@@ -13,12 +14,13 @@ use Rattle.ds_kind.specs.Asks.{has_room, has_proper_span, is_proper}
 use Rattle.ds_kind.specs.Bodies.{empty_body, goes_down}
 use Rattle.ds_kind.specs.Left.{taken_in, left_after}
 use Rattle.ds_kind.specs.Reach.{Reach, At as Point, Over, extent_of}
-use Rattle.ds_kind.specs.Request.{reach_of, span_of, cut_to}
+use Rattle.ds_kind.specs.Request.{reach_of, span_of}
 use Rattle.ds_kind.specs.declared.batch.Head.{Head}
 use Rattle.ds_kind.specs.declared.batch.Item.{Item}
 use Rattle.ds_kind.specs.declared.reply.Reply.{Reply}
 use Rattle.ds_kind.specs.declared.request.Request.{Request}
 use Rattle.ds_kind.specs.declared.request.Request.TheVariants.{Get, Scan, ReverseScan, Put, ConditionalPut, InitPut, Increment, Delete, DeleteRange, EndTxn, QueryIntent, ResolveIntent, ResolveIntentRange, AdminSplit, AdminTransferLease}
+use Rattle.ds_kind.proofs.RequestFacts.{cut_whole}
 use Rattle.ds_cell.specs.declared.entry.At.{At}
 use Rattle.ds_cell.specs.Ask.{Cell, Cells, key_of, content_at, places, Asked, Failed, Gave}
 use Rattle.ds_cell.specs.LawProofs.{own_span}
@@ -190,23 +192,6 @@ taken_room r at s e cells n k reach room is =
 
 -- the part of an item
 
-cut_own : (r : Request) → cut_to (span_of r).start (span_of r).end r ≡ r
-cut_own (Get a) = refl
-cut_own (Scan a) = refl
-cut_own (ReverseScan a) = refl
-cut_own (Put a) = refl
-cut_own (ConditionalPut a) = refl
-cut_own (InitPut a) = refl
-cut_own (Increment a) = refl
-cut_own (Delete a) = refl
-cut_own (DeleteRange a) = refl
-cut_own (EndTxn a) = refl
-cut_own (QueryIntent a) = refl
-cut_own (ResolveIntent a) = refl
-cut_own (ResolveIntentRange a) = refl
-cut_own (AdminSplit a) = refl
-cut_own (AdminTransferLease a) = refl
-
 no-rest : (h : Head) (i : Item) (a : Asked) (cells : Cells) → with_rest None (made_by h i a cells) ≡ made_by h i a cells
 no-rest h i (Failed k f) cells = refl
 no-rest h i (Gave bits ws) cells = refl
@@ -231,7 +216,7 @@ pub whole_share : (h : Head) (i : Item) (cells : Cells) (d : Bool) (e : Extent) 
 unfolding up_to
 whole_share h i cells d e k way span is none =
     sym (nothing_left h i cells)
-    ∙ ap (λ (r : Request). with_rest None (ask_item h (record i { request = r }) cells)) (sym (cut_own i.request))
+    ∙ ap (λ (r : Request). with_rest None (ask_item h (record i { request = r }) cells)) (sym (cut_whole i.request))
     ∙ ap (λ z. with_rest None (ask_item h (item_in z i) cells)) (span ∙ sym is)
     ∙ ap (λ z. with_rest z (ask_item h (item_in (part_to d e k) i) cells)) (sym none)
     ∙ ap (λ z. up_to h k i cells z e) (sym way)
@@ -346,9 +331,6 @@ pub used_up : (rest taken : ℕ) (r : Reply) → taken ≡ taken_in r.body → r
 used_up rest taken r is all = let none : 0 ≡ rest - taken = omega arith in ap Some none ∙ less_left rest taken r is
 
 -- the bounds of a part
-
-pub le_itself : (k : List ℕ) → key_le k k ≡ true
-le_itself k = le_of_not_lt k k (key_lt-irrefl k)
 
 pub span_from : (r : Request) (s e : List ℕ) → reach_of r ≡ Over s e → key_le (span_of r).start s ≡ true
 span_from r s e reach = ap (λ z. key_le (extent_of z).start s) reach ∙ le_itself s

@@ -1,5 +1,5 @@
 -- The keys at which a request writes have room for one more, so that what is left of the next span can be said too.
-use Rattle.std.proofs.Common.{◌≡◌, ℕ, zero, suc, true, false, ◌&&◌, if◌then◌else◌, List, [], ◌∷◌, Option, Some, None, ap, subst}
+use Rattle.std.proofs.Common.{◌≡◌, ℕ, zero, suc, true, false, ◌&&◌, if◌then◌else◌, List, [], ◌∷◌, Option, Some, None, sym, ap, subst}
 use Rattle.std.specs.List.{list_all}
 use Rattle.std.specs.BTreeMap.{insert_entry}
 use Rattle.std.specs.Ordering.{match_ordering}
@@ -11,6 +11,7 @@ use Rattle.ds_base.specs.declared.value.Value.{Value}
 use Rattle.ds_base.proofs.SmallFacts.{and_first, and_second}
 use Rattle.ds_kind.specs.Asks.{has_room, has_proper_span, is_proper}
 use Rattle.ds_kind.specs.Bodies.{goes_down}
+use Rattle.ds_kind.specs.CutReach.{cut_reach}
 use Rattle.ds_kind.specs.Left.{is_used_up, left_after}
 use Rattle.ds_kind.specs.Parts.{requests_of}
 use Rattle.ds_kind.specs.Reach.{Reach, At as Point, Over}
@@ -19,7 +20,7 @@ use Rattle.ds_kind.specs.declared.batch.Head.{Head}
 use Rattle.ds_kind.specs.declared.batch.Item.{Item}
 use Rattle.ds_kind.specs.declared.reply.Reply.{Reply}
 use Rattle.ds_kind.specs.declared.request.Request.{Request}
-use Rattle.ds_kind.specs.declared.request.Request.TheVariants.{Get, Scan, ReverseScan, Put, ConditionalPut, InitPut, Increment, Delete, DeleteRange, EndTxn, QueryIntent, ResolveIntent, ResolveIntentRange, AdminSplit, AdminTransferLease}
+use Rattle.ds_kind.proofs.RequestFacts.{reach_cut}
 use Rattle.ds_cell.specs.declared.entry.At.{At}
 use Rattle.ds_cell.specs.declared.verdict.Verdict.{Verdict}
 use Rattle.ds_cell.specs.declared.verdict.Verdict.TheVariants.{Keep, Put as Write, Refuse}
@@ -47,22 +48,12 @@ room_proper : (x : Reach) → is_proper x ≡ true → RoomAt x
 room_proper (Point k) h = h
 room_proper (Over s e) h = tt
 
+room_part : (s e : List ℕ) (x : Reach) → RoomAt x → RoomAt (cut_reach s e x)
+room_part s e (Point k) h = h
+room_part s e (Over a b) h = tt
+
 room_cut : (s e : List ℕ) (r : Request) → RoomAt (reach_of r) → RoomAt (reach_of (cut_to s e r))
-room_cut s e (Get a) h = h
-room_cut s e (Scan a) h = tt
-room_cut s e (ReverseScan a) h = tt
-room_cut s e (Put a) h = h
-room_cut s e (ConditionalPut a) h = h
-room_cut s e (InitPut a) h = h
-room_cut s e (Increment a) h = h
-room_cut s e (Delete a) h = h
-room_cut s e (DeleteRange a) h = tt
-room_cut s e (EndTxn a) h = h
-room_cut s e (QueryIntent a) h = h
-room_cut s e (ResolveIntent a) h = h
-room_cut s e (ResolveIntentRange a) h = tt
-room_cut s e (AdminSplit a) h = h
-room_cut s e (AdminTransferLease a) h = h
+room_cut s e r h = subst RoomAt (sym (reach_cut s e r)) (room_part s e (reach_of r) h)
 
 room_places : (x : Reach) (cells : Cells) → RoomAt x → Each HasRoom cells → Each HasRoom (places x cells)
 room_places (Point k) cells h all = (h, tt)

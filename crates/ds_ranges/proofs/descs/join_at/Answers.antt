@@ -1,4 +1,4 @@
-use Rattle.std.proofs.Common.{◌≡◌, sym, subst}
+use Rattle.std.proofs.Common.{sym, subst}
 use Rattle.ds_lineage.specs.Last.{Joins}
 use Rattle.ds_lineage.proofs.Spans.{joins-neighbours}
 use Rattle.ds_ranges.proofs.descs.join_at.Goals as goal

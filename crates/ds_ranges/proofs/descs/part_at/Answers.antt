@@ -1,4 +1,4 @@
-use Rattle.std.proofs.Common.{rules, ◌≡◌, false, sym, ap, ◌∙◌, subst}
+use Rattle.std.proofs.Common.{◌≡◌, false, sym, subst}
 use Rattle.ds_desc.specs.Descs.{overlap}
 use Rattle.ds_lineage.specs.Last.{Follows}
 use Rattle.ds_rule.specs.Shifts.{left_part, right_part}

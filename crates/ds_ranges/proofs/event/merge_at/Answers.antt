@@ -1,4 +1,4 @@
-use Rattle.std.proofs.Common.{rules, ◌≡◌, ◌+◌, ◌∙◌, sym, ap, suc, Some, get_or, arith}
+use Rattle.std.proofs.Common.{◌≡◌, ◌+◌, ◌∙◌, sym, ap, suc, Some, arith}
 use Rattle.std.specs.List.{insert, remove, slice_get}
 use Rattle.std.proofs.Math.ListN.{set}
 use Rattle.ds_base.proofs.SmallFacts.{some_same}

@@ -1,5 +1,5 @@
 use Rattle.std.proofs.Common.{[], arith}
-use Rattle.ds_rule.proofs.Standing.{least}
+use Rattle.ds_rule.proofs.Routes.{least}
 use Rattle.ds_ranges.proofs.Finding.{first-held, none-held}
 use Rattle.ds_ranges.proofs.find.place_of.Goals as goal
 

@@ -1,4 +1,3 @@
-use Rattle.std.proofs.Common.{[]}
 use Rattle.ds_base.proofs.SmallFacts.{not_greater}
 use Rattle.ds_ranges.proofs.RowLists.{rows-back, rows-forward}
 use Rattle.ds_ranges.proofs.rows.ahead.Goals as goal

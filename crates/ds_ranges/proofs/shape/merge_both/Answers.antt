@@ -1,4 +1,4 @@
-use Rattle.std.proofs.Common.{◌≡◌, ◌<◌, [], suc, Some, sym, ap, ◌∙◌, subst, length, take, arith}
+use Rattle.std.proofs.Common.{◌≡◌, ◌<◌, [], suc, Some, sym, ap, ◌∙◌, subst, length, arith}
 use Rattle.std.specs.List.{slice_get}
 use Rattle.ds_desc.specs.Descs.{greatest_id}
 use Rattle.ds_ranges.proofs.Events.{Entry, entry}
@@ -35,7 +35,7 @@ take_back-requires c =
     let f : Entry c.args.ranges.now.items (suc c.args.at) = entry c.args.ranges.now.items (suc c.args.at) c.requires.within in
     let there : slice_get c.as_slice.result.now c.args.at ≡ Some e.one = subst (λ z. slice_get z c.args.at ≡ Some e.one) (sym c.as_slice.ensures.value) e.at in
     let next : slice_get c.as_slice.result.now (suc c.args.at) ≡ Some f.one = subst (λ z. slice_get z (suc c.args.at) ≡ Some f.one) (sym c.as_slice.ensures.value) f.at in
-    c.greatest_id-top.ensures ∙ ap greatest_id (sym (taken-back c.args.lineage.now c.join_at.new.lineage _ c.len-count.result (c.in_ok-join_at.ensures.ok e.one f.one there next) c.len-count.ensures))
+    c.greatest_id-greatest.ensures ∙ ap greatest_id (sym (taken-back c.args.lineage.now c.join_at.new.lineage _ c.len-before.result (c.in_ok-join_at.ensures.ok e.one f.one there next) c.len-before.ensures))
 
 pub returns-in-Ok-clause-descs : goal.returns-in-Ok-clause-descs
 returns-in-Ok-clause-descs c = λ r s at next. c.in_ok-join_at.ensures.ok r s (subst (λ z. slice_get z c.args.at ≡ Some r) (sym c.as_slice.ensures.value) at) (subst (λ z. slice_get z (suc c.args.at) ≡ Some s) (sym c.as_slice.ensures.value) next)
@@ -47,4 +47,4 @@ returns-in-Err-clause-err_descs c =
     let f : Entry c.args.ranges.now.items (suc c.args.at) = entry c.args.ranges.now.items (suc c.args.at) c.requires.within in
     let there : slice_get c.as_slice.result.now c.args.at ≡ Some e.one = subst (λ z. slice_get z c.args.at ≡ Some e.one) (sym c.as_slice.ensures.value) e.at in
     let next : slice_get c.as_slice.result.now (suc c.args.at) ≡ Some f.one = subst (λ z. slice_get z (suc c.args.at) ≡ Some f.one) (sym c.as_slice.ensures.value) f.at in
-    c.take_back.ensures ∙ taken-back c.args.lineage.now c.join_at.new.lineage _ c.len-count.result (c.in_ok-join_at.ensures.ok e.one f.one there next) c.len-count.ensures
+    c.take_back.ensures ∙ taken-back c.args.lineage.now c.join_at.new.lineage _ c.len-before.result (c.in_ok-join_at.ensures.ok e.one f.one there next) c.len-before.ensures

@@ -1,4 +1,4 @@
-use Rattle.std.proofs.Common.{rules, ◌≡◌, ◌<◌, [], ap, ◌∙◌, sym, subst, length, arith}
+use Rattle.std.proofs.Common.{rules, ◌≡◌, [], ap, ◌∙◌, sym, subst, length, arith}
 use Rattle.ds_rule.specs.Begin.{ranges_of}
 use Rattle.ds_rule.specs.World.{Tiles}
 use Rattle.ds_ranges.specs.Layout.{own_descs}
