@@ -5,8 +5,8 @@ ghost use Rattle.ds_desc.specs.Descs.{back_from, containing, greatest_id, overla
 ghost use Rattle.ds_lineage.specs.Last.{IsLastAt, Begins, Follows, Joins};
 ghost use Rattle.ds_lineage.specs.Nodes.{ComesAfter, ContainsAt, IsLastBefore};
 
-use crate::node::{After, Node};
-use ds_base::Key;
+use crate::node::{After, Node, copy_nodes};
+use ds_base::{Copies, Key};
 use ds_desc::RangeDesc;
 use std::alloc::{AllocError, Global};
 use std::marker::Model;
@@ -194,5 +194,14 @@ impl Lineage {
         self.nodes.push(Node { desc, after })?;
         self.greatest = greatest;
         Ok(())
+    }
+}
+
+impl Copies for Lineage {
+    fn copy(&self, alloc: Global) -> Result<Lineage, AllocError> {
+        Ok(Lineage {
+            nodes: copy_nodes(alloc, self.nodes.as_slice())?,
+            greatest: self.greatest,
+        })
     }
 }

@@ -1,4 +1,5 @@
 pub mod Asking
+pub mod Copying
 pub mod Freedom
 pub mod Held
 pub mod Maps

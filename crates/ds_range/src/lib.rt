@@ -3,6 +3,7 @@
 
 mod ask;
 mod change;
+mod copy;
 mod join;
 mod keep;
 mod lease;

@@ -47,7 +47,7 @@ out-high k r h = and_left (key_le (start_of r) k) (key_lt k (end_of r)) (not_le_
 
 -- ---- a search by halves
 
-ends-above : (s : List ℕ) (rs : List Range) (j : ℕ) (d : Range) → Tiles s rs → j < length rs → key_le s (end_of (get_or rs j d)) ≡ true
+pub ends-above : (s : List ℕ) (rs : List Range) (j : ℕ) (d : Range) → Tiles s rs → j < length rs → key_le s (end_of (get_or rs j d)) ≡ true
 ends-above s [] j d t low = absurd (omega (arith, low))
 ends-above s (r ∷ rs) zero d t low = le_of_lt s (end_of r) t.0.some
 ends-above s (r ∷ rs) (suc j) d t low =
@@ -61,7 +61,7 @@ ends-parted k s (r ∷ rs) t zero (suc j) d up low h =
     le_trans (end_of r) (end_of (get_or rs j d)) k (ends-above (end_of r) rs j d t.1 (omega (arith, low))) h
 ends-parted k s (r ∷ rs) t (suc i) (suc j) d up low h = ends-parted k (end_of r) rs t.1 i j d (omega (arith, up)) (omega (arith, low)) h
 
-starts-above : (s : List ℕ) (rs : List Range) (j : ℕ) (d : Range) → Tiles s rs → j < length rs → key_le s (start_of (get_or rs j d)) ≡ true
+pub starts-above : (s : List ℕ) (rs : List Range) (j : ℕ) (d : Range) → Tiles s rs → j < length rs → key_le s (start_of (get_or rs j d)) ≡ true
 starts-above s [] j d t low = absurd (omega (arith, low))
 starts-above s (r ∷ rs) zero d t low = subst (λ z. key_le s z ≡ true) (sym t.0.begins) (le_itself s)
 starts-above s (r ∷ rs) (suc j) d t low =

@@ -1,3 +1,4 @@
+pub mod Alike
 pub mod Changing
 pub mod Events
 pub mod Examples
@@ -6,5 +7,7 @@ pub mod Newests
 pub mod Parting
 pub mod Removing
 pub mod RowLists
+pub mod Serving
 pub mod Sounds
 pub mod Starting
+pub mod Touching

@@ -1,3 +1,6 @@
+pub mod Alike
 pub mod Layout
 pub mod Places
+pub mod Serving
 pub mod Sound
+pub mod Touching

@@ -6,12 +6,16 @@
 #![tactic(auto)]
 
 mod begin;
+mod copy;
 mod descs;
 mod event;
 mod find;
 mod ranges;
 mod rows;
+mod serve;
+mod settle;
 mod shape;
+mod touched;
 #[cfg(test)]
 mod tests;
 

@@ -96,7 +96,7 @@ impl Ranges {
     pub fn rows(&self, alloc: Global, key: &Key, dir: Dir) -> Result<Infos, AllocError>
         ensures { IfOk result (λ is. (w : World) → is ≡ rows_at dir key.now (laid self.now w) None) }
     {
-        first_rows(alloc, ahead(self.items.as_slice(), key, dir), dir)
+        first_rows(alloc, ahead(self.items.as_slice(), key, dir), dir, 9)
     }
 
     /// A write of another client, at the range that holds the key. Want of memory leaves all as it

@@ -35,16 +35,17 @@ fn nth(ranges: &[RangeState], dir: Dir, i: usize) -> &RangeState
     }
 }
 
-/// The rows of the first ranges in the direction, at most nine.
+/// The rows of the first ranges in the direction, at most so many.
 pub(crate) fn first_rows(
     alloc: Global,
     ranges: &[RangeState],
     dir: Dir,
+    most: usize,
 ) -> Result<Infos, AllocError>
-    ensures { IfOk result (λ is. is ≡ map (λ r. r.info) (take 9 (in_order dir ranges.now))) }
+    ensures { IfOk result (λ is. is ≡ map (λ r. r.info) (take most (in_order dir ranges.now))) }
 {
     let mut rows = Infos::new(alloc);
-    'rows: for i in 0..ranges.len().min(9) {
+    'rows: for i in 0..ranges.len().min(most) {
         rows.push(alloc, nth(ranges, dir, i).info().copy(alloc)?)?;
     }
     Ok(rows)

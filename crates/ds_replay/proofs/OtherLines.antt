@@ -29,7 +29,7 @@ use Rattle.ds_send.specs.Asked.{asker_of}
 use Rattle.ds_send.specs.declared.txn.Txn.{Txn}
 use Rattle.ds_sim.specs.declared.sim.Sim.{Sim}
 use Rattle.ds_sim.specs.State.{state_of}
-use Rattle.ds_sim.proofs.Begins.{tiled}
+use Rattle.ds_ranges.proofs.Starting.{first-tiled}
 use Rattle.ds_replay.specs.declared.state.State.{State}
 use Rattle.ds_replay.specs.Stages.{IsIn, HasOpen, StandsAt}
 use Rattle.ds_replay.specs.Taken.{LineTaken, Taken}
@@ -58,7 +58,7 @@ cluster-line sim c s p tile leased is at =
     quiet-line State.Start (State.Closed sim 0) (lines.Cluster c) s (record { world = first_world c.ranges; asks = s.asks }) p p (refl, refl) (tt, refl) refl tt (
       record {
         world = sym (ap (λ z. z.world) is);
-        stands = subst (StandsFor (first_world c.ranges)) (sym at.1) (first-stands c.ranges (tiled c.ranges tile) leased);
+        stands = subst (StandsFor (first_world c.ranges)) (sym at.1) (first-stands c.ranges (first-tiled c.ranges tile) leased);
         steady = first-steady c.ranges leased;
         played = ap (λ z. z.asks.begun) at.0;
         stored = ap (λ z. z.begun) at.1;

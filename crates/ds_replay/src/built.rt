@@ -1,8 +1,6 @@
 //! Which scripts are built so far.
 ghost use Rattle.std.specs.Prelude.{◌≡◌, option_map, Some, None, if◌then◌else◌};
-ghost use Rattle.std.specs.List.{list_all};
 ghost use Rattle.ds_base.specs.Order.{key_lt, bound};
-ghost use Rattle.ds_rule.specs.Begin.{is_leased};
 ghost use Rattle.ds_send.specs.Batch as Sends;
 ghost use Rattle.ds_replay.specs.Built.{Stage, Start, Closed, Open, next_stage, is_cluster, is_quiet, may_stand_by, is_sent, first_unbuilt};
 ghost use Rattle.ds_replay.specs.Forms.{form_stage};
@@ -12,7 +10,7 @@ use ds_kind::{Batch, Request};
 use ds_rule::{Block, ClusterRange};
 use ds_script::{Line, Script};
 use ds_send::{all_plain_reads, is_built};
-use ds_sim::tiles;
+use ds_sim::{are_leased, tiles};
 
 /// How far a script has come, as far as its form goes.
 #[derive(Clone, Copy, Debug, PartialEq, Eq)]
@@ -20,12 +18,6 @@ enum Form {
     Start,
     Closed,
     Open(Stamp),
-}
-
-fn are_leased(ranges: &[ClusterRange]) -> bool
-    ensures { result ≡ list_all is_leased ranges.now }
-{
-    ranges.iter().all(|range| range.nodes.contains(range.lease))
 }
 
 fn is_cluster(ranges: &[ClusterRange]) -> bool

@@ -1,37 +1,20 @@
 -- The ranges tile the keys, so that each key lies in one.
-use Rattle.std.proofs.Common.{◌≡◌, ℕ, suc, ◌+◌, ◌-◌, ◌<◌, drop, get_or, append_assoc, ◌==◌, Bool, true, false, cond, not, ◌&&◌, ◌||◌, List, [], ◌∷◌, ◌++◌, refl, sym, ap, ◌∙◌, subst, length, map, take, reverse, arith, Result, Ok, Err, IfOk}
-use Rattle.std.specs.declared.alloc.AllocError.{AllocError}
+use Rattle.std.proofs.Common.{◌≡◌, ℕ, ◌==◌, Bool, true, false, cond, not, ◌&&◌, ◌||◌, List, [], ◌∷◌, ◌++◌, None, refl, sym, ap, ◌∙◌, subst, map, take, reverse}
 use Rattle.ds_desc.specs.declared.desc.Info.{Info}
 use Rattle.std.specs.List.{list_any}
-use Rattle.std.proofs.Math.Seq.{take-length}
-use Rattle.std.proofs.lemmas.Bool.Decides.{nat_tests}
 use Rattle.ds_base.specs.Order.{key_lt, key_le, bound, holds, IsKey}
 use Rattle.ds_base.specs.declared.value.Dir.{Dir}
 use Rattle.ds_base.specs.declared.value.Dir.TheVariants.{Forward, Reverse}
-use Rattle.std.proofs.lemmas.List.{drop_more, length-drop, reverse-append}
+use Rattle.std.proofs.lemmas.List.{reverse-append}
 use Rattle.ds_base.proofs.KeyOrder.{key_le-not_lt}
 use Rattle.ds_base.proofs.SmallFacts.{and_first, and_second, not_greater}
 use Rattle.ds_base.proofs.OrderedFacts.{le_of_not_lt, not_lt_of_le, not_le_of_lt}
 use Rattle.ds_rule.proofs.Routes.{least}
 use Rattle.ds_desc.specs.Contains.{contains, lies_ahead, first_contains}
-use Rattle.ds_rule.specs.declared.cluster.ClusterRange.{ClusterRange}
-use Rattle.ds_rule.specs.World.{Range, start_of, end_of, Tiles, in_order, from_first}
-use Rattle.ds_rule.specs.Begin.{next_start, range_of, ranges_of, rises, tiles}
-use Rattle.ds_rule.proofs.Tiling.{rises-tiles}
-use Rattle.ds_sim.specs.State.{rows_of}
-
-empty_of : (k : List ℕ) → (length k == 0) ≡ true → k ≡ []
-empty_of [] h = refl
-empty_of (x ∷ xs) h = absurd (some (length xs) h)
-  where
-    some : (n : ℕ) → (suc n == 0) ≡ true → ⊥
-    some n h = grind (arith, nat_tests)
-
--- a cluster whose ranges tile begins with ranges that do
-pub tiled : (rs : List ClusterRange) → tiles rs ≡ true → Tiles [] (ranges_of 1 rs)
-tiled rs h =
-    subst (λ s. Tiles s (ranges_of 1 rs)) (empty_of (next_start rs) (and_first (length (next_start rs) == 0) _ h))
-    (rises-tiles 1 rs (and_second (length (next_start rs) == 0) _ h))
+use Rattle.ds_rule.specs.Keeping.{Keeps}
+use Rattle.ds_rule.specs.World.{World, Range, start_of, end_of, Tiles, in_order, from_first, rows_at}
+use Rattle.ds_ranges.specs.Layout.{Layout, laid}
+use Rattle.ds_ranges.specs.Sound.{bare}
 
 -- going forward, some range contains a key below the bound
 some_forward : (s k : List ℕ) (rs : List Range) → Tiles s rs → key_le s k ≡ true → key_lt k bound ≡ true → list_any (λ r. contains Forward k r.info.desc.span) rs ≡ true
@@ -111,30 +94,11 @@ first_of_some d k (x ∷ xs) h =
     ] refl h
 
 -- a lookup's first row contains the key
-pub first_row : (d : Dir) (k : List ℕ) (rs : List Range) → Tiles [] rs → IsKey k → lies_ahead d k ≡ true → first_contains d k (rows_of d k rs) ≡ true
+pub first_row : (d : Dir) (k : List ℕ) (rs : List Range) → Tiles [] rs → IsKey k → lies_ahead d k ≡ true → first_contains d k (map (λ r. r.info) (take 9 (from_first (λ r. contains d k r.info.desc.span) (in_order d rs)))) ≡ true
 first_row Forward k rs t key h = first_of_some Forward k rs (some_forward [] k rs t (least k) h)
 first_row Reverse k rs t key h =
     first_of_some Reverse k (reverse rs) (some_in_order Reverse (λ r. contains Reverse k r.info.desc.span) rs (some_reverse [] k rs t h (not_greater _ key.low)))
 
-pub first_ok : (d : Dir) (k : List ℕ) (rs : List Range) (r : Result (List Info) AllocError) → Tiles [] rs → IsKey k → lies_ahead d k ≡ true → IfOk r (λ is. is ≡ rows_of d k rs) → IfOk r (λ is. first_contains d k is ≡ true)
-first_ok d k rs (Ok is) t key h e = subst (λ z. first_contains d k z ≡ true) (sym e) (first_row d k rs t key h)
-first_ok d k rs (Err e) t key h g = tt
-
--- the next range to be made
-pub next_range : (rs : List ClusterRange) (i : ℕ) (r : ClusterRange) → i < length rs → r ≡ get_or rs i r → drop i rs ≡ r ∷ drop (i + 1) rs
-next_range rs i r low at = drop_more rs i r low ∙ ap (λ z. z ∷ drop (i + 1) rs) (sym at)
-
--- the slice to the end is all that is left
-pub next_end : (rs : List ClusterRange) (i : ℕ) (end : List ℕ) → end ≡ next_start (take (length rs - i) (drop i rs)) → end ≡ next_start (drop i rs)
-next_end rs i end is = is ∙ ap (λ n. next_start (take n (drop i rs))) (sym (length-drop i rs)) ∙ ap next_start (take-length (drop i rs))
-
--- one range more was made
-pub one_range_more : (rs rest : List ClusterRange) (id : ℕ) (r : ClusterRange) (end : List ℕ) (m : Range) (made next all : List Range) → rs ≡ r ∷ rest → end ≡ next_start rest → m ≡ range_of id r end → next ≡ made ++ m ∷ [] → made ++ ranges_of id rs ≡ all → next ++ ranges_of (id + 1) rest ≡ all
-one_range_more rs rest id r end m made next all are ends is more so_far =
-    ap (λ z. z ++ ranges_of (id + 1) rest) (more ∙ ap (λ z. made ++ z ∷ []) (is ∙ ap (range_of id r) ends))
-    ∙ append_assoc made (range_of id r (next_start rest) ∷ []) (ranges_of (id + 1) rest)
-    ∙ sym (ap (λ z. made ++ ranges_of id z) are) ∙ so_far
-
--- those after it still rise
-pub later_rise : (rs rest : List ClusterRange) (r : ClusterRange) → rs ≡ r ∷ rest → rises rs ≡ true → rises rest ≡ true
-later_rise rs rest r are h = and_second (key_lt r.start (next_start rest)) _ (sym (ap rises are) ∙ h)
+-- and so it is of the rows that a lookup is answered
+pub first-looked : (d : Dir) (k : List ℕ) (l : Layout) (infos : List Info) → Keeps (laid l bare) → IsKey k → lies_ahead d k ≡ true → ((w : World) → infos ≡ rows_at d k (laid l w) None) → first_contains d k infos ≡ true
+first-looked d k l infos keeps key h are = subst (λ z. first_contains d k z ≡ true) (sym (are bare)) (first_row d k l.ranges keeps.tiled key h)

@@ -1,7 +1,7 @@
 -- How a block's calls change what a wire stands for.
 use Rattle.std.proofs.Common.{◌≡◌, ℕ, true, List, [], ◌∷◌, map, Option, Some, None, refl, ap, ◌∙◌}
 use Rattle.std.specs.Option.{option_or}
-use Rattle.ds_base.specs.declared.value.Stamp.{Stamp}
+use Rattle.ds_desc.specs.declared.desc.RangeDesc.{RangeDesc}
 use Rattle.ds_kind.specs.declared.reply.TxnStatus.{TxnStatus}
 use Rattle.ds_kind.specs.declared.reply.TxnStatus.TheVariants as Says
 use Rattle.ds_cell.specs.Seen.{last_of}
@@ -9,12 +9,11 @@ use Rattle.ds_cell.proofs.LatestFacts.{last_where-cons}
 use Rattle.ds_rule.specs.declared.record.RecordStatus.{RecordStatus}
 use Rattle.ds_rule.specs.declared.record.RecordStatus.TheVariants as Status
 use Rattle.ds_rule.specs.declared.record.TxnRecord.{TxnRecord}
-use Rattle.ds_rule.specs.World.{Range}
-use Rattle.ds_rule.specs.Close.{settle_range, settle_by, commit_of, closed, said_status, status_of_last}
+use Rattle.ds_rule.specs.Close.{closed, said_status, settle_by, status_of_last}
 use Rattle.ds_rule.specs.Moves.{aborted, aborted_status, with_last, with_last_after}
 use Rattle.ds_rule.specs.Records.{with_status}
+use Rattle.ds_ranges.specs.Layout.{Layout, layout}
 use Rattle.ds_sim.specs.State.{world_of}
-use Rattle.ds_sim.proofs.Delivering.{same_world}
 
 same-after : (f g : TxnRecord → TxnRecord) (t : TxnRecord) (ts : List TxnRecord) → ((x : TxnRecord) → last_of (t ∷ ts) ≡ Some x → f x ≡ g x) → with_last_after f t ts ≡ with_last_after g t ts
 same-after f g t [] same = ap (λ z. z ∷ []) (same t refl)
@@ -57,16 +56,7 @@ ends_unknown ts says = ends_other ts Says.Unknown (λ e. cc) says
 pub ends_staging : (ts : List TxnRecord) → Says.Staging ≡ status_of_last (last_of ts) → with_last (with_status Status.Aborted) ts ≡ with_last aborted ts
 ends_staging ts says = ends_other ts Says.Staging (λ e. cc) says
 
-settled_descs : (txn : ℕ) (commit : Option Stamp) (rs : List Range) → map (λ r. r.info.desc) (map (settle_range txn commit) rs) ≡ map (λ r. r.info.desc) rs
-settled_descs txn commit [] = refl
-settled_descs txn commit (r ∷ rs) = ap (λ ds. r.info.desc ∷ ds) (settled_descs txn commit rs)
-
-settle_descs : (o : Option TxnRecord) (rs : List Range) → map (λ r. r.info.desc) (settle_by o rs) ≡ map (λ r. r.info.desc) rs
-settle_descs None rs = refl
-settle_descs (Some t) rs = settled_descs t.txn.0 (commit_of t.status t.stamp) rs
-
 -- the world after the open transaction ended
-pub closed_world : (rs now : List Range) (records ends : List TxnRecord) (n : ℕ) → now ≡ settle_by (last_of records) rs → ends ≡ with_last aborted records → world_of now ends n ≡ closed (world_of rs records n)
-closed_world rs now records ends n settled are =
-    ap (λ qs. world_of qs ends n) settled ∙ ap (λ ts. world_of (settle_by (last_of records) rs) ts n) are
-    ∙ same_world rs (settle_by (last_of records) rs) (with_last aborted records) n (settle_descs (last_of records) rs)
+pub closed_world : (l now : Layout) (armed : List RangeDesc) (records ends : List TxnRecord) (n : ℕ) → now ≡ layout (settle_by (last_of records) l.ranges) l.descs → ends ≡ with_last aborted records → world_of now armed ends n ≡ closed (world_of l armed records n)
+closed_world l now armed records ends n settled are =
+    ap (λ z. world_of z armed ends n) settled ∙ ap (λ ts. world_of (layout (settle_by (last_of records) l.ranges) l.descs) armed ts n) are

@@ -1,139 +1,130 @@
--- A piece delivered to the range with its id.
-use Rattle.std.proofs.Common.{◌≡◌, ℕ, ◌+◌, Bool, true, false, cond, List, [], ◌∷◌, map, Option, Some, None, refl, sym, ap, ◌∙◌, subst, position, Result, Ok, Err, IfOk, OnErr}
-use Rattle.std.specs.List.{find, slice_get}
+-- A delivery, told by what the range with the piece's id makes of it.
+use Rattle.std.proofs.Common.{◌≡◌, ℕ, true, false, cond, List, [], ◌∷◌, Option, Some, None, refl, sym, ap, ◌∙◌, subst, Result, Ok, Err, IfOk, OnErr}
+use Rattle.std.specs.List.{find}
 use Rattle.std.specs.Option.{option_map}
 use Rattle.std.specs.declared.alloc.AllocError.{AllocError}
-use Rattle.std.proofs.Math.ListN.{set}
-use Rattle.std.proofs.lemmas.Option.{get_or_from_slice_get}
-use Rattle.ds_base.specs.declared.value.Stamp.{Stamp}
-use Rattle.ds_base.specs.declared.value.Value.{Value}
-use Rattle.ds_base.proofs.SmallFacts.{some_none, some_same}
+use Rattle.ds_base.proofs.SmallFacts.{none_some, some_none, some_same}
 use Rattle.ds_desc.specs.declared.refusal.Refusal.TheVariants.{NotFound}
 use Rattle.ds_kind.specs.declared.batch.Piece.{Piece}
+use Rattle.ds_kind.specs.declared.reply.Failure.{Failure}
+use Rattle.ds_kind.specs.declared.reply.Reply.{Reply}
 use Rattle.ds_cell.specs.Ask.{Cells}
-use Rattle.ds_cell.specs.Change.{after_foreign}
-use Rattle.ds_cell.specs.Store.{put_cell}
+use Rattle.ds_cell.specs.Store.{WriteAt}
+use Rattle.ds_range.specs.Evaluates.{answer_to}
+use Rattle.ds_range.specs.Keeps.{Kept}
+use Rattle.ds_range.specs.declared.piece.Evaluation.{Evaluation}
 use Rattle.ds_rule.specs.declared.answer.Answer.{Answer}
-use Rattle.ds_rule.specs.declared.answer.Answer.TheVariants.{Refused}
-use Rattle.ds_rule.specs.declared.event.Event.TheVariants.{Write}
+use Rattle.ds_rule.specs.declared.answer.Answer.TheVariants.{Done, Failed, Refused}
 use Rattle.ds_rule.specs.declared.record.TxnRecord.{TxnRecord}
-use Rattle.ds_rule.specs.Asking.{Made, Gives, Fails}
-use Rattle.ds_rule.specs.World.{World, Range, Tiles, has_id, holds_key, replaced}
-use Rattle.ds_rule.specs.Deliver.{Stop, stop_answer, stops, served, answer_at, answer_made, world_at, world_made, deliver_answer, deliver_world, deliver_answer_to, deliver_world_to}
-use Rattle.ds_rule.specs.Moves.{moved}
-use Rattle.ds_rule.proofs.Delivered.{holding, same_descs, delivered_tiles}
-use Rattle.ds_range.specs.Serves.{after_made}
-use Rattle.ds_sim.specs.State.{world_of}
-use Rattle.ds_sim.proofs.Places.{placed}
+use Rattle.ds_rule.specs.Asking.{Made, Gives, Fails, finished}
+use Rattle.ds_rule.specs.Deliver.{Stop, answer_at, answer_made, deliver_answer, deliver_answer_to, deliver_world, deliver_world_to, served, stop_answer, stops, with_cells, world_at, world_made}
+use Rattle.ds_rule.specs.Endings.{all_ended, records_made}
+use Rattle.ds_rule.specs.World.{World, Range, Tiles, has_id}
+use Rattle.ds_rule.proofs.Service.{held}
+use Rattle.ds_ranges.specs.Layout.{Became, Layout, layout}
+use Rattle.ds_ranges.specs.Serving.{Applies, HoldsItems, answered_at, held_at, held_made, made_of, put_back_at, records_at}
+use Rattle.ds_ranges.specs.Sound.{bare}
+use Rattle.ds_sim.specs.Done.{Delivers, having, shift_all, shifts_in, shifts_of, stops_at}
+use Rattle.ds_sim.proofs.Done.{all-parts, recorded}
 
--- the answer and the ranges afterwards
-pub record Delivers (w : World) (node : ℕ) (p : Piece) (a : Answer) (now : List Range) : Type 0 where
-  pub answer : a ≡ deliver_answer w node p
-  pub after : now ≡ (deliver_world w node p).ranges
+-- ---- turned away
 
--- no range has the id
-pub not_there : (w : World) (node : ℕ) (p : Piece) → find (has_id p.range) w.ranges ≡ None → Delivers w node p (Refused NotFound) w.ranges
-not_there w node p none = record {
-  answer = sym (ap (deliver_answer_to w node p) none);
-  after = sym (ap (λ o. (deliver_world_to w node p o).ranges) none);
+turned-at : (node : ℕ) (p : Piece) (l : Layout) (ts : List TxnRecord) (o : Option Range) (x : Stop) → find (has_id p.range) l.ranges ≡ o → stops_at l ts node p o ≡ Some x → Delivers node p l l ts ts (stop_answer x)
+turned-at node p l ts None x found is = none_some x is
+turned-at node p l ts (Some r) x found is = record {
+  answer = λ w. sym (ap (deliver_answer_to (having l ts w) node p) found ∙ ap (answer_at (having l ts w) p r) is);
+  after = λ w. sym (ap (deliver_world_to (having l ts w) node p) found ∙ ap (world_at (having l ts w) p r) is);
 }
 
-turned_by : (w : World) (node : ℕ) (p : Piece) (r : Range) (o : Option Stop) (a : Answer) → Some a ≡ option_map stop_answer o → (a ≡ answer_at w p r o) × (w.ranges ≡ (world_at w p r o).ranges)
-turned_by w node p r None a h = some_none a h
-turned_by w node p r (Some x) a h = (some_same a (stop_answer x) h, refl)
+stopped : (o : Option Stop) (a : Answer) → Some a ≡ option_map stop_answer o → (x : Stop) × (o ≡ Some x) × (a ≡ stop_answer x)
+stopped None a h = some_none a h
+stopped (Some x) a h = (x, refl, some_same a (stop_answer x) h)
 
 -- the range does not serve the piece
-pub turned : (w : World) (node : ℕ) (p : Piece) (r : Range) (a : Answer) → find (has_id p.range) w.ranges ≡ Some r → Some a ≡ option_map stop_answer (stops w node p r) → Delivers w node p a w.ranges
-turned w node p r a is why =
-    let t = turned_by w node p r (stops w node p r) a why in
+pub turned : (node : ℕ) (p : Piece) (l : Layout) (ts : List TxnRecord) (a : Answer) → Some a ≡ option_map stop_answer (stops_at l ts node p (find (has_id p.range) l.ranges)) → Delivers node p l l ts ts a
+turned node p l ts a h =
+    let s = stopped (stops_at l ts node p (find (has_id p.range) l.ranges)) a h in
+    subst (Delivers node p l l ts ts) (sym s.2) (turned-at node p l ts (find (has_id p.range) l.ranges) s.0 refl s.1)
+
+-- ---- served
+
+not_stopped : (o : Option Stop) → None ≡ option_map stop_answer o → o ≡ None
+not_stopped None h = refl
+not_stopped (Some x) h = none_some (stop_answer x) h
+
+holds-at : (node : ℕ) (p : Piece) (l : Layout) (ts : List TxnRecord) (o : Option Range) → stops_at l ts node p o ≡ None → HoldsItems p o
+holds-at node p l ts None is = tt
+holds-at node p l ts (Some r) is = held (having l ts bare) node p r is
+
+-- what isn't turned away lies in the range
+pub lies-in : (node : ℕ) (p : Piece) (l : Layout) (ts : List TxnRecord) → None ≡ option_map stop_answer (stops_at l ts node p (find (has_id p.range) l.ranges)) → HoldsItems p (find (has_id p.range) l.ranges)
+lies-in node p l ts h = holds-at node p l ts (find (has_id p.range) l.ranges) (not_stopped _ h)
+
+-- no range has the id
+none-at : (node : ℕ) (p : Piece) (l m : Layout) (ts us : List TxnRecord) (o : Option Range) → find (has_id p.range) l.ranges ≡ o → None ≡ answered_at ts p o → Became (held_at ts p o) l m → us ≡ records_at ts p o → Delivers node p l m ts us (Refused NotFound)
+none-at node p l m ts us (Some r) found answer after records = none_some (answer_made (made_of ts p r)) answer
+none-at node p l m ts us None found answer after records = record {
+  answer = λ w. sym (ap (deliver_answer_to (having l ts w) node p) found);
+  after = λ w. ap (recorded us) (after w) ∙ ap (λ zs. having l zs w) records ∙ sym (ap (deliver_world_to (having l ts w) node p) found);
+}
+
+pub not-there : (node : ℕ) (p : Piece) (l m : Layout) (ts us : List TxnRecord) → Applies p ts us l m None → Delivers node p l m ts us (Refused NotFound)
+not-there node p l m ts us a = none-at node p l m ts us (find (has_id p.range) l.ranges) refl a.answer a.after a.records
+
+-- the world after what was made, whatever else it has
+made-world : (p : Piece) (l m n : Layout) (ts us : List TxnRecord) (e : Evaluation) (made : Made) → answer_to e ≡ answer_made made → Became (held_made p made) l m → us ≡ records_made p.head p.items made ts → Became (shift_all (shifts_in p e)) m n → (w : World) → having n us w ≡ world_made (having l ts w) p made
+made-world p l m n ts us (Evaluation.Failed f) (Gives cells ws qs) answer after records shifted w = let no : Failed f ≡ Done qs = answer in cc
+made-world p l m n ts us (Evaluation.Served rs undo) (Fails f) answer after records shifted w = let no : Done rs ≡ Failed f = answer in cc
+made-world p l m n ts us (Evaluation.Failed f) (Fails g) answer after records shifted w =
+    ap (recorded us) (shifted w ∙ after w) ∙ ap (λ zs. having l zs w) records
+made-world p l m n ts us (Evaluation.Served rs undo) (Gives cells ws qs) answer after records shifted w =
+    let same : rs ≡ qs = done_same rs qs answer in
+    let v : World = recorded ts w in
+    ap (recorded us) (shifted v ∙ ap (shift_all (shifts_of p.items rs)) (after v))
+    ∙ ap (λ zs. recorded us (shift_all (shifts_of p.items zs) (with_cells p.range (finished p.head ws cells) (having l ts w)))) same
+    ∙ ap (λ zs. recorded zs (shift_all (shifts_of p.items qs) (with_cells p.range (finished p.head ws cells) (having l ts w)))) records
+    ∙ sym (all-parts p.head p.items qs (with_cells p.range (finished p.head ws cells) (having l ts w)))
+  where
+    done_same : (rs qs : List Reply) → Done rs ≡ Done qs → rs ≡ qs
+    done_same rs qs h = cc
+
+some-at : (node : ℕ) (p : Piece) (l m n : Layout) (ts us : List TxnRecord) (e : Evaluation) (o : Option Range) → find (has_id p.range) l.ranges ≡ o → stops_at l ts node p o ≡ None → Some (answer_to e) ≡ answered_at ts p o → Became (held_at ts p o) l m → us ≡ records_at ts p o → Became (shift_all (shifts_in p e)) m n → Delivers node p l n ts us (answer_to e)
+some-at node p l m n ts us e None found goes answer after records shifted = some_none (answer_to e) answer
+some-at node p l m n ts us e (Some r) found goes answer after records shifted =
+    let says : answer_to e ≡ answer_made (made_of ts p r) = some_same (answer_to e) (answer_made (made_of ts p r)) answer in
     record {
-      answer = t.0 ∙ sym (ap (deliver_answer_to w node p) is);
-      after = t.1 ∙ sym (ap (λ o. (deliver_world_to w node p o).ranges) is);
+      answer = λ w. says ∙ sym (ap (deliver_answer_to (having l ts w) node p) found ∙ ap (answer_at (having l ts w) p r) goes);
+      after = λ w. made-world p l m n ts us e (made_of ts p r) says after records shifted w ∙ sym (ap (deliver_world_to (having l ts w) node p) found ∙ ap (world_at (having l ts w) p r) goes);
     }
 
-same_cells : (p : Range → Bool) (rs : List Range) (q : Range) → find p rs ≡ Some q → replaced p (λ r. holding r q.cells) rs ≡ rs
-same_cells p [] q h = refl
-same_cells p (r ∷ rs) q h =
-    elim (p r) as (λ b. cond b (Some r) (find p rs) ≡ Some q → cond b (holding r q.cells ∷ rs) (r ∷ replaced p (λ r. holding r q.cells) rs) ≡ r ∷ rs) [
-      | true ↦ λ g. let same : q.cells ≡ r.cells = cc in ap (λ cs. holding r cs ∷ rs) same
-      | false ↦ λ g. ap (λ rs. r ∷ rs) (same_cells p rs q g)
-    ] h
+-- the range serves the piece, and then the keys lie in ranges as its items say
+pub serves : (node : ℕ) (p : Piece) (l m n : Layout) (ts us : List TxnRecord) (e : Evaluation) → None ≡ option_map stop_answer (stops_at l ts node p (find (has_id p.range) l.ranges)) → Applies p ts us l m (Some e) → Became (shift_all (shifts_in p e)) m n → Delivers node p l n ts us (answer_to e)
+serves node p l m n ts us e goes a shifted =
+    some-at node p l m n ts us e (find (has_id p.range) l.ranges) refl (not_stopped _ goes) a.answer a.after a.records shifted
 
-made_after : (w : World) (p : Piece) (r : Range) (m : Made) → find (has_id p.range) w.ranges ≡ Some r → replaced (has_id p.range) (λ q. holding q (after_made p.head m r.cells)) w.ranges ≡ (world_made w p m).ranges
-made_after w p r (Fails f) is = same_cells (has_id p.range) w.ranges r is
-made_after w p r (Gives cells ws rs) is = refl
+-- ---- over what the calls say
 
-served_by : (w : World) (node : ℕ) (p : Piece) (r : Range) (o : Option Stop) → find (has_id p.range) w.ranges ≡ Some r → None ≡ option_map stop_answer o → (answer_made (served p r) ≡ answer_at w p r o) × (replaced (has_id p.range) (λ q. holding q (after_made p.head (served p r) r.cells)) w.ranges ≡ (world_at w p r o).ranges)
-served_by w node p r (Some x) is h = some_none (stop_answer x) (sym h)
-served_by w node p r None is h = (refl, made_after w p r (served p r) is)
+pub noted-ok : (node : ℕ) (p : Piece) (l m : Layout) (ts us : List TxnRecord) (b : Answer) (r : Result Answer AllocError) → Delivers node p l m ts us b → IfOk r (λ a. a ≡ b) → IfOk r (λ a. Delivers node p l m ts us a)
+noted-ok node p l m ts us b (Ok a) d is = subst (Delivers node p l m ts us) (sym is) d
+noted-ok node p l m ts us b (Err e) d is = tt
 
--- the range serves the piece
-pub serves : (w : World) (node : ℕ) (p : Piece) (r : Range) (a : Answer) (after : List Range) → find (has_id p.range) w.ranges ≡ Some r → None ≡ option_map stop_answer (stops w node p r) → a ≡ answer_made (served p r) → after ≡ replaced (has_id p.range) (λ q. holding q (after_made p.head (served p r) r.cells)) w.ranges → Delivers w node p a after
-serves w node p r a after is why answered changed =
-    let t = served_by w node p r (stops w node p r) is why in
-    record {
-      answer = answered ∙ t.0 ∙ sym (ap (deliver_answer_to w node p) is);
-      after = changed ∙ t.1 ∙ sym (ap (λ o. (deliver_world_to w node p o).ranges) is);
-    }
+pub on-err : {X : Type 0} (r : Result Answer AllocError) → X → OnErr r X
+on-err (Ok a) x = tt
+on-err (Err e) x = x
 
--- the range that was found, with other contents
-pub set_holding : (p : Range → Bool) (cells : Cells) (xs : List Range) (i : ℕ) (old y : Range) → position p xs ≡ Some i → slice_get xs i ≡ Some old → y ≡ holding old cells → set xs i y ≡ replaced p (λ r. holding r cells) xs
-set_holding p cells xs i old y here at is =
-    placed p (λ r. holding r cells) xs i y here (is ∙ ap (λ r. holding r cells) (sym (get_or_from_slice_get xs i old y at)))
+-- ---- undone
 
-pub serves_ok : (w : World) (node : ℕ) (p : Piece) (i : ℕ) (old y : Range) (r : Result Answer AllocError) → position (has_id p.range) w.ranges ≡ Some i → slice_get w.ranges i ≡ Some old → find (has_id p.range) w.ranges ≡ Some old → None ≡ option_map stop_answer (stops w node p old) → IfOk r (λ a. a ≡ answer_made (served p old)) → IfOk r (λ a. y ≡ holding old (after_made p.head (served p old) old.cells)) → IfOk r (λ a. Delivers w node p a (set w.ranges i y))
-serves_ok w node p i old y (Ok a) here at is why answered changed =
-    serves w node p old a (set w.ranges i y) is why answered (set_holding (has_id p.range) (after_made p.head (served p old) old.cells) w.ranges i old y here at changed)
-serves_ok w node p i old y (Err e) here at is why answered changed = tt
+nothing-back : (id : ℕ) (rs : List Range) → put_back_at id [] rs ≡ rs
+nothing-back id [] = refl
+nothing-back id (r ∷ rs) =
+    elim (has_id id r) as (λ b. cond b (r ∷ rs) (r ∷ put_back_at id [] rs) ≡ r ∷ rs) [
+      | true ↦ refl
+      | false ↦ ap (λ zs. r ∷ zs) (nothing-back id rs)
+    ]
 
-pub answer_ok : (w : World) (node : ℕ) (p : Piece) (after : List Range) (r : Result Answer AllocError) → IfOk r (λ a. Delivers w node p a after) → IfOk r (λ a. a ≡ deliver_answer w node p)
-answer_ok w node p after (Ok a) d = d.answer
-answer_ok w node p after (Err e) d = tt
+-- a piece that failed changed nothing
+pub failed-back : (id : ℕ) (l m : Layout) → layout (put_back_at id [] m.ranges) m.descs ≡ l → m ≡ l
+failed-back id l m back = sym (ap (λ zs. layout zs m.descs) (nothing-back id m.ranges)) ∙ back
 
-pub after_ok : (w : World) (node : ℕ) (p : Piece) (after : List Range) (r : Result Answer AllocError) → IfOk r (λ a. Delivers w node p a after) → IfOk r (λ a. after ≡ (deliver_world w node p).ranges)
-after_ok w node p after (Ok a) d = d.after
-after_ok w node p after (Err e) d = tt
-
--- an answer that was noted as it is
-pub noted_ok : (w : World) (node : ℕ) (p : Piece) (b : Answer) (after : List Range) (r : Result Answer AllocError) → Delivers w node p b after → IfOk r (λ a. a ≡ b) → IfOk r (λ a. Delivers w node p a after)
-noted_ok w node p b after (Ok a) d is = record { answer = is ∙ d.answer; after = d.after }
-noted_ok w node p b after (Err e) d is = tt
-
--- the world of other ranges with the same descriptors
-
-pub same_world : (rs after : List Range) (records : List TxnRecord) (n : ℕ) → map (λ r. r.info.desc) after ≡ map (λ r. r.info.desc) rs → world_of after records n ≡ record (world_of rs records n) { ranges = after }
-same_world rs after records n same =
-    ap (λ ds. record { ranges = after; descs = ds; armed = []; records = records; copies = []; count = n }) same
-
-world_made_of : (rs : List Range) (records : List TxnRecord) (n : ℕ) (p : Piece) (m : Made) → world_of (world_made (world_of rs records n) p m).ranges records n ≡ world_made (world_of rs records n) p m
-world_made_of rs records n p (Fails f) = refl
-world_made_of rs records n p (Gives cells ws rs2) = same_world rs _ records n (same_descs (has_id p.range) (λ r. _) rs)
-
-world_at_of : (rs : List Range) (records : List TxnRecord) (n : ℕ) (p : Piece) (r : Range) (o : Option Stop) → world_of (world_at (world_of rs records n) p r o).ranges records n ≡ world_at (world_of rs records n) p r o
-world_at_of rs records n p r (Some a) = refl
-world_at_of rs records n p r None = world_made_of rs records n p (served p r)
-
-world_to_of : (rs : List Range) (records : List TxnRecord) (n node : ℕ) (p : Piece) (o : Option Range) → world_of (deliver_world_to (world_of rs records n) node p o).ranges records n ≡ deliver_world_to (world_of rs records n) node p o
-world_to_of rs records n node p None = refl
-world_to_of rs records n node p (Some r) = world_at_of rs records n p r (stops (world_of rs records n) node p r)
-
--- the world after a delivery is that of the ranges after it
-pub delivered_world : (rs after : List Range) (records : List TxnRecord) (n node : ℕ) (p : Piece) → after ≡ (deliver_world (world_of rs records n) node p).ranges → world_of after records n ≡ deliver_world (world_of rs records n) node p
-delivered_world rs after records n node p is =
-    ap (λ qs. world_of qs records n) is ∙ world_to_of rs records n node p (find (has_id p.range) rs)
-
--- and after a write
-pub moved_world : (rs after : List Range) (records : List TxnRecord) (n : ℕ) (k : List ℕ) (s : Stamp) (v : Option Value) → after ≡ replaced (holds_key k) (λ r. record r { cells = put_cell k (after_foreign (record { stamp = s; value = v })) r.cells }) rs → world_of after records (n + 1) ≡ moved (world_of rs records n) (Write k s v)
-moved_world rs after records n k s v is =
-    same_world rs after records (n + 1)
-    (ap (map (λ r. r.info.desc)) is ∙ same_descs (holds_key k) (λ r. put_cell k (after_foreign (record { stamp = s; value = v })) r.cells) rs)
-    ∙ ap (λ qs. record (world_of rs records (n + 1)) { ranges = qs }) is
-
--- one place read twice
-pub same_read : (xs : List Range) (i : ℕ) (x y : Range) → slice_get xs i ≡ Some x → slice_get xs i ≡ Some y → x ≡ y
-same_read xs i x y a b = some_same x y (sym a ∙ b)
-
--- the ranges tile the keys as before
-pub tiles_kept : (w : World) (node : ℕ) (p : Piece) (now : List Range) (r : Result Answer AllocError) → IfOk r (λ a. now ≡ (deliver_world w node p).ranges) → OnErr r (now ≡ w.ranges) → Tiles [] w.ranges → Tiles [] now
-tiles_kept w node p now (Ok a) ok err t = subst (Tiles []) (sym ok) (delivered_tiles [] w node p t)
-tiles_kept w node p now (Err e) ok err t = subst (Tiles []) (sym err) t
+pub tiled-back : (id : ℕ) (kept : List Kept) (l m n : Layout) → n ≡ m → layout (put_back_at id kept m.ranges) m.descs ≡ l → Tiles [] l.ranges → Tiles [] (put_back_at id kept n.ranges)
+tiled-back id kept l m n same back t = subst (λ z. Tiles [] (put_back_at id kept z.ranges)) (sym same) (subst (λ z. Tiles [] z.ranges) (sym back) t)

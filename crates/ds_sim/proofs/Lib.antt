@@ -1,9 +1,8 @@
-pub mod Alike
 pub mod Begins
 pub mod Closing
-pub mod DeliverAt
 pub mod Delivering
+pub mod Done
 pub mod Examples
-pub mod Places
-pub mod RowSteps
+pub mod Looking
 pub mod Sending
+pub mod Shifting

@@ -10,16 +10,15 @@ use Rattle.ds_desc.specs.declared.meta.Looked.TheVariants as Looked
 use Rattle.ds_kind.specs.declared.batch.Piece.{Piece}
 use Rattle.ds_rule.specs.declared.answer.Answer.{Answer}
 use Rattle.ds_rule.specs.declared.answer.Answer.TheVariants.{Done, Failed, Refused, Lost}
-use Rattle.ds_rule.specs.declared.record.TxnRecord.{TxnRecord}
 use Rattle.ds_rule.specs.declared.journal.JournalStep.{JournalStep}
 use Rattle.ds_rule.specs.declared.journal.JournalStep.TheVariants.{Look, Send}
 use Rattle.ds_rule.specs.Asking.{Made, Gives, Fails}
-use Rattle.ds_rule.specs.World.{World, Range, has_id, look_rows}
+use Rattle.ds_rule.specs.World.{World, Range, has_id, look_rows, look_world}
 use Rattle.ds_rule.specs.Deliver.{Stop, Turned, Ended, stops, served, deliver_answer, deliver_world, deliver_answer_to, answer_at, answer_made}
 use Rattle.ds_rule.specs.Journal.{Did, BothWays}
 use Rattle.ds_rule.specs.Clauses.{Stands, Steps, Stays, IsRefused, IsLost}
 use Rattle.ds_rule.proofs.Passing.{send_does}
-use Rattle.ds_sim.specs.State.{stands_for, refused_after, world_of}
+use Rattle.ds_sim.specs.State.{refused_after, stands_for}
 
 map_append : (xs ys : List JournalStep) → map Did (xs ++ ys) ≡ map Did xs ++ map Did ys
 map_append [] ys = refl
@@ -51,7 +50,7 @@ refused_rises Lost c = omega arith
 not_lost_at : (w : World) (node : ℕ) (p : Piece) (o : Option Stop) (r : Range) → Lost ≡ answer_at w p r o → ⊥
 not_lost_at w node p (Some (Turned x)) r h = cc
 not_lost_at w node p (Some (Ended f)) r h = cc
-not_lost_at w node p None r h = made_not (served p r) h
+not_lost_at w node p None r h = made_not (served w p r) h
   where
     made_not : (m : Made) → Lost ≡ answer_made m → ⊥
     made_not (Gives cells ws rs) h = cc
@@ -84,13 +83,13 @@ send_steps w v steps later floor c n p a grown is after fits = record {
   loses = loses_of w n p a is;
 }
 
--- what a lookup adds: its rows are the world's, in which no row is armed
-pub look_steps : (rs : List Range) (records : List TxnRecord) (n : ℕ) (steps later : List JournalStep) (floor c : ℕ) (k : List ℕ) (d : Dir) (infos : List Info) → later ≡ steps ++ Look k d (Looked.Rows infos) ∷ [] → infos ≡ look_rows (world_of rs records n) k d → lies_ahead d k ≡ true → Steps (stands_for (world_of rs records n) steps floor c) (stands_for (world_of rs records n) later floor c) (Look k d (Looked.Rows infos))
-look_steps rs records n steps later floor c k d infos grown rows ahead = record {
+-- what a lookup adds, whose rows are the world's
+pub look_steps : (w v : World) (steps later : List JournalStep) (floor c : ℕ) (k : List ℕ) (d : Dir) (infos : List Info) → later ≡ steps ++ Look k d (Looked.Rows infos) ∷ [] → infos ≡ look_rows w k d → v ≡ look_world w k d → lies_ahead d k ≡ true → Steps (stands_for w steps floor c) (stands_for v later floor c) (Look k d (Looked.Rows infos))
+look_steps w v steps later floor c k d infos grown rows after ahead = record {
   moves = [];
   above = tt;
   grown = ap (map Did) grown ∙ map_append steps (Look k d (Looked.Rows infos) ∷ []);
-  runs = (world_of rs records n, (BothWays, ((rows, ahead), refl)), refl);
+  runs = (v, (BothWays, ((rows, ahead), after)), refl);
   floor = refl;
   ahead = refl;
   refused = omega arith;

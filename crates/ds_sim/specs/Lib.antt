@@ -1,3 +1,3 @@
-pub mod Alike
-pub mod Rows
+pub mod Done
+pub mod Looks
 pub mod State

@@ -1,20 +1,25 @@
 //! A piece delivered to a node.
-ghost use Rattle.std.specs.Prelude.{◌≡◌, ◌==◌, ◌++◌, ◌∷◌, [], Some, find, position, IfOk, OnErr};
+ghost use Rattle.std.specs.Prelude.{◌≡◌, ◌++◌, ◌∷◌, [], None, find, IfOk, OnOk, OnErr};
 ghost use Rattle.std.specs.Option.{option_map};
-ghost use Rattle.std.specs.List.{slice_get};
+ghost use Rattle.ds_kind.specs.Parts.{requests_of};
+ghost use Rattle.ds_range.specs.Evaluates.{answer_to};
+ghost use Rattle.ds_rule.specs.declared.answer.Answer.TheVariants.{Done};
 ghost use Rattle.ds_rule.specs.declared.journal.JournalStep.TheVariants.{Send};
-ghost use Rattle.ds_rule.specs.Asking.{txn_of, ask_all};
+ghost use Rattle.ds_rule.specs.Asking.{txn_of};
+ghost use Rattle.ds_rule.specs.Deliver.{is_rollback, status_stops, stop_answer, stops, stops_as};
+ghost use Rattle.ds_rule.specs.Records.{record_of};
 ghost use Rattle.ds_rule.specs.World.{has_id};
-ghost use Rattle.ds_rule.specs.Deliver.{answer_made, stops, stop_answer, deliver_answer, deliver_world, status_stops};
-ghost use Rattle.ds_range.specs.Serves.{after_made};
-ghost use Rattle.ds_sim.specs.State.{world_of};
+ghost use Rattle.ds_ranges.specs.Layout.{Became};
+ghost use Rattle.ds_ranges.specs.Sound.{bare};
+ghost use Rattle.ds_sim.specs.Done.{Delivers, having, shift_all, shifts_of, stops_at};
 
-use crate::rows::overlapping;
+use crate::shift::{make_shifts, shifts_of};
 use ds_base::{Copies, TxnNo};
 use ds_desc::Refusal;
-use ds_kind::{Failure, Head, Piece};
-use ds_range::{Applied, RangeState};
-use ds_rule::{Answer, JournalStep, JournalSteps, RecordStatus, Records};
+use ds_kind::{Failure, Head, Item, Piece, Replies, Request};
+use ds_range::{Evaluation, RangeState};
+use ds_ranges::Ranges;
+use ds_rule::{Answer, JournalStep, RecordStatus, Records};
 use std::alloc::{AllocError, Global};
 
 /// The number of the transaction that a piece is of, 0 without one.
@@ -27,43 +32,56 @@ fn txn_of(head: &Head) -> TxnNo
     }
 }
 
-/// A record that is committed or aborted takes no more pieces.
-fn stopped_by(records: &Records, txn: TxnNo) -> Option<Failure>
-    ensures { result ≡ status_stops (find (λ t. t.txn.0 == txn.0) records.now) }
+/// Whether these are one end of a transaction that does not commit, and nothing else.
+fn is_rollback(items: &[Item]) -> bool
+    ensures { result ≡ is_rollback (requests_of items.now) }
 {
-    match records.find(txn) {
-        Some(record) => match record.status {
-            RecordStatus::Committed => Some(Failure::Committed),
-            RecordStatus::Aborted => Some(Failure::Aborted),
-            RecordStatus::Pending | RecordStatus::Staging(_) => None,
+    match items {
+        [one] => match &one.request {
+            Request::EndTxn(args) => !args.commit,
+            _ => false,
         },
-        None => None,
+        _ => false,
     }
 }
 
-fn has_id(range: &RangeState, id: u32) -> bool
-    ensures { result ≡ has_id id range.now }
+/// A committed record takes no more pieces, and an aborted one a rollback alone.
+fn stops_as(status: &RecordStatus, rollback: bool) -> Option<Failure>
+    ensures { result ≡ stops_as status.now rollback }
 {
-    range.info().desc.id == id
+    match status {
+        RecordStatus::Committed => Some(Failure::Committed),
+        RecordStatus::Aborted => {
+            if rollback {
+                None
+            } else {
+                Some(Failure::Aborted)
+            }
+        }
+        RecordStatus::Pending | RecordStatus::Staging(_) => None,
+    }
 }
 
-/// Where the first range with the id stands.
-fn place_with(ranges: &[RangeState], id: u32) -> Option<usize>
-    ensures { result ≡ position (has_id id) ranges.now }
+/// Why the record of its transaction, if there is one, takes the piece no more.
+fn stopped_by(records: &Records, piece: &Piece) -> Option<Failure>
+    ensures { result ≡ status_stops (record_of (txn_of piece.now.head) records.now) piece.now }
 {
-    ranges.iter().position(|range| has_id(range, id))
+    match records.find(txn_of(&piece.head)) {
+        Some(record) => stops_as(&record.status, is_rollback(piece.items.as_slice())),
+        None => None,
+    }
 }
 
 /// The answer of a range that does not serve the piece; none where it does.
 fn turned_by(
     alloc: Global,
     range: &RangeState,
-    ranges: &[RangeState],
+    ranges: &Ranges,
     records: &Records,
     node: u8,
     piece: &Piece,
 ) -> Result<Option<Answer>, AllocError>
-    ensures { IfOk result (λ o. o ≡ option_map stop_answer (stops (world_of ranges.now records.now 0) node piece.now range.now)) }
+    ensures { IfOk result (λ o. o ≡ option_map stop_answer (stops (having ranges.now records.now bare) node piece.now range.now)) }
 {
     let info = range.info();
     if !info.desc.nodes.contains(node) {
@@ -73,11 +91,27 @@ fn turned_by(
         return Ok(Some(Answer::Refused(Refusal::NotLease { lease: info.lease })));
     }
     if !range.holds_all(piece.items.as_slice()) {
-        let infos = overlapping(alloc, ranges, &piece.items, piece.dir)?;
+        let infos = ranges.overlapping(alloc, &piece.items, piece.dir)?;
         return Ok(Some(Answer::Refused(Refusal::Mismatch { infos })));
     }
-    match stopped_by(records, txn_of(&piece.head)) {
+    match stopped_by(records, piece) {
         Some(failure) => Ok(Some(Answer::Failed(failure))),
+        None => Ok(None),
+    }
+}
+
+/// The answer of the range with the piece's id, where that does not serve it.
+fn refusal(
+    alloc: Global,
+    ranges: &Ranges,
+    records: &Records,
+    node: u8,
+    piece: &Piece,
+) -> Result<Option<Answer>, AllocError>
+    ensures { IfOk result (λ o. o ≡ option_map stop_answer (stops_at ranges.now records.now node piece.now (find (has_id piece.now.range) ranges.now.ranges))) }
+{
+    match ranges.get(piece.range) {
+        Some(range) => turned_by(alloc, range, ranges, records, node, piece),
         None => Ok(None),
     }
 }
@@ -103,87 +137,61 @@ fn noted(
     node: u8,
     piece: &Piece,
     answer: Answer,
-    steps: &mut JournalSteps,
+    steps: &mut Vec<JournalStep>,
 ) -> Result<Answer, AllocError>
     ensures answer { IfOk result (λ a. a ≡ answer) }
-    ensures steps { IfOk result (λ a. steps.new ≡ steps.old ++ Send node piece.now a ∷ []) }
-    ensures err { OnErr result (steps.new ≡ steps.old) }
+    ensures steps { IfOk result (λ a. (steps.new).items ≡ (steps.old).items ++ Send node piece.now a ∷ []) }
+    ensures err { OnErr result ((steps.new).items ≡ (steps.old).items) }
 {
     let step = send_step(alloc, node, piece, &answer)?;
-    steps.push(alloc, step)?;
+    steps.push(step)?;
     Ok(answer)
 }
 
-/// Lets the range serve the piece, and notes the step. Want of memory leaves both as they were.
-fn serve_at(
+/// Notes the step of a piece that was served, and makes what its items shift. Want of memory leaves
+/// the ranges and the steps as they were.
+fn complete(
     alloc: Global,
-    range: &mut RangeState,
+    ranges: &mut Ranges,
     node: u8,
     piece: &Piece,
-    steps: &mut JournalSteps,
+    replies: Replies,
+    steps: &mut Vec<JournalStep>,
 ) -> Result<Answer, AllocError>
-    ensures answer { IfOk result (λ a. a ≡ answer_made (ask_all piece.now.head piece.now.items (range.old).cells)) }
-    ensures after { IfOk result (λ a. range.new ≡ record (range.old) { cells = after_made piece.now.head (ask_all piece.now.head piece.now.items (range.old).cells) (range.old).cells }) }
-    ensures steps { IfOk result (λ a. steps.new ≡ steps.old ++ Send node piece.now a ∷ []) }
-    ensures err { OnErr result (range.new ≡ range.old) }
-    ensures err_steps { OnErr result (steps.new ≡ steps.old) }
+    ensures answer { IfOk result (λ a. a ≡ Done replies) }
+    ensures shifted { OnOk result (Became (shift_all (shifts_of piece.now.items replies)) ranges.old ranges.new) }
+    ensures steps { IfOk result (λ a. (steps.new).items ≡ (steps.old).items ++ Send node piece.now a ∷ []) }
+    ensures err { OnErr result (ranges.new ≡ ranges.old) }
+    ensures err_steps { OnErr result ((steps.new).items ≡ (steps.old).items) }
 {
-    match range.apply(alloc, piece)? {
-        Applied::Failed(failure) => noted(alloc, node, piece, Answer::Failed(failure), steps),
-        Applied::Served { replies, undo } => {
-            match noted(alloc, node, piece, Answer::Done(replies), steps) {
-                Ok(answer) => Ok(answer),
-                Err(err) => {
-                    range.undo(undo);
-                    Err(err)
-                }
-            }
-        }
-    }
+    let shifts = shifts_of(alloc, piece.items.as_slice(), replies.as_slice())?;
+    let answer = Answer::Done(replies);
+    let step = send_step(alloc, node, piece, &answer)?;
+    steps.reserve(1)?;
+    make_shifts(alloc, ranges, shifts.as_slice())?;
+    steps.push_reserved(step);
+    Ok(answer)
 }
 
-/// Delivers the piece to the range at this place.
-fn deliver_at(
+/// Lets the range with the piece's id serve it, and notes the step. Want of memory leaves all as it was.
+fn serve(
     alloc: Global,
-    ranges: &mut Vec<RangeState>,
-    i: usize,
-    records: &Records,
+    ranges: &mut Ranges,
+    records: &mut Records,
     node: u8,
     piece: &Piece,
-    steps: &mut JournalSteps,
+    steps: &mut Vec<JournalStep>,
 ) -> Result<Answer, AllocError>
-    requires { position (has_id piece.now.range) (ranges.old).items ≡ Some i }
-    ensures answer { IfOk result (λ a. a ≡ deliver_answer (world_of (ranges.old).items records.now 0) node piece.now) }
-    ensures after { IfOk result (λ a. (ranges.new).items ≡ (deliver_world (world_of (ranges.old).items records.now 0) node piece.now).ranges) }
-    ensures steps { IfOk result (λ a. steps.new ≡ steps.old ++ Send node piece.now a ∷ []) }
-    ensures err { OnErr result ((ranges.new).items ≡ (ranges.old).items) }
-    ensures err_steps { OnErr result (steps.new ≡ steps.old) }
+    requires left { piece.now.head.left ≡ None }
+    requires goes { None ≡ option_map stop_answer (stops_at ranges.old records.old node piece.now (find (has_id piece.now.range) (ranges.old).ranges)) }
+    ensures delivers { IfOk result (λ a. Delivers node piece.now ranges.old ranges.new records.old records.new a) }
+    ensures steps { IfOk result (λ a. (steps.new).items ≡ (steps.old).items ++ Send node piece.now a ∷ []) }
+    ensures err { OnErr result (ranges.new ≡ ranges.old) }
+    ensures err_records { OnErr result (records.new ≡ records.old) }
+    ensures err_steps { OnErr result ((steps.new).items ≡ (steps.old).items) }
 {
-    let items = ranges.as_slice();
-    if let Some(answer) = turned_by(alloc, &items[i], items, records, node, piece)? {
-        return noted(alloc, node, piece, answer, steps);
-    }
-    let range = &mut ranges[i];
-    serve_at(alloc, range, node, piece, steps)
-}
-
-/// Delivers the piece to the range with its id.
-pub(crate) fn deliver_to(
-    alloc: Global,
-    ranges: &mut Vec<RangeState>,
-    records: &Records,
-    node: u8,
-    piece: &Piece,
-    steps: &mut JournalSteps,
-) -> Result<Answer, AllocError>
-    ensures answer { IfOk result (λ a. a ≡ deliver_answer (world_of (ranges.old).items records.now 0) node piece.now) }
-    ensures after { IfOk result (λ a. (ranges.new).items ≡ (deliver_world (world_of (ranges.old).items records.now 0) node piece.now).ranges) }
-    ensures steps { IfOk result (λ a. steps.new ≡ steps.old ++ Send node piece.now a ∷ []) }
-    ensures err { OnErr result ((ranges.new).items ≡ (ranges.old).items) }
-    ensures err_steps { OnErr result (steps.new ≡ steps.old) }
-{
-    match place_with(ranges.as_slice(), piece.range) {
-        Some(i) => deliver_at(alloc, ranges, i, records, node, piece, steps),
+    ranges.known();
+    match ranges.apply(alloc, records, piece)? {
         None => noted(
             alloc,
             node,
@@ -191,5 +199,39 @@ pub(crate) fn deliver_to(
             Answer::Refused(Refusal::NotFound),
             steps,
         ),
+        Some(Evaluation::Failed(failure)) => {
+            noted(alloc, node, piece, Answer::Failed(failure), steps)
+        }
+        Some(Evaluation::Served { replies, undo }) => {
+            match complete(alloc, ranges, node, piece, replies, steps) {
+                Ok(answer) => Ok(answer),
+                Err(err) => {
+                    ranges.undo(records, piece.range, undo);
+                    Err(err)
+                }
+            }
+        }
+    }
+}
+
+/// Delivers the piece to the range with its id, and notes the step. Want of memory leaves all as it was.
+pub(crate) fn deliver(
+    alloc: Global,
+    ranges: &mut Ranges,
+    records: &mut Records,
+    node: u8,
+    piece: &Piece,
+    steps: &mut Vec<JournalStep>,
+) -> Result<Answer, AllocError>
+    requires { piece.now.head.left ≡ None }
+    ensures delivers { IfOk result (λ a. Delivers node piece.now ranges.old ranges.new records.old records.new a) }
+    ensures steps { IfOk result (λ a. (steps.new).items ≡ (steps.old).items ++ Send node piece.now a ∷ []) }
+    ensures err { OnErr result (ranges.new ≡ ranges.old) }
+    ensures err_records { OnErr result (records.new ≡ records.old) }
+    ensures err_steps { OnErr result ((steps.new).items ≡ (steps.old).items) }
+{
+    match refusal(alloc, ranges, records, node, piece)? {
+        Some(answer) => noted(alloc, node, piece, answer, steps),
+        None => serve(alloc, ranges, records, node, piece, steps),
     }
 }

@@ -1,16 +1,14 @@
 //! The simulated cluster: a wire that answers lookups and pieces as the world says.
 #![tactic(auto)]
 
-mod begin;
 mod deliver;
-mod ranges;
+mod look;
 mod records;
-mod rows;
-mod settle;
+mod shift;
 mod sim;
 #[cfg(test)]
 mod tests;
 
-pub use begin::tiles;
-pub use ranges::Ranges;
+pub use ds_ranges::{are_leased, tiles};
+pub use shift::Shift;
 pub use sim::Sim;

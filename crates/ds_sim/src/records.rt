@@ -4,10 +4,11 @@ ghost use Rattle.std.specs.Option.{option_map};
 ghost use Rattle.ds_cell.specs.Seen.{last_of};
 ghost use Rattle.ds_rule.specs.Close.{status_of_last, commit_of, settle_by, said_status};
 ghost use Rattle.ds_rule.specs.Moves.{aborted, with_last};
+ghost use Rattle.ds_ranges.specs.Layout.{layout};
 
-use crate::ranges::Ranges;
 use ds_base::{Stamp, TxnNo};
 use ds_kind::TxnStatus;
+use ds_ranges::Ranges;
 use ds_rule::{RecordStatus, Records, TxnRecord};
 use std::alloc::{AllocError, Global};
 
@@ -59,7 +60,7 @@ pub(crate) fn settle_last(
     ranges: &mut Ranges,
     records: &Records,
 ) -> Result<(), AllocError>
-    ensures { OnOk result (ranges.new ≡ settle_by (last_of records.now) ranges.old) }
+    ensures { OnOk result (ranges.new ≡ layout (settle_by (last_of records.now) (ranges.old).ranges) (ranges.old).descs) }
 {
     match to_settle(records) {
         Some((txn, commit)) => ranges.settle(alloc, txn, commit),

@@ -1,18 +1,22 @@
 //! The cluster as a wire.
-ghost use Rattle.std.specs.Prelude.{◌≡◌, ◌<◌, ◌-◌, ◌^◌, [], true, length, refl, IfOk, OnOk, OnErr};
-ghost use Rattle.ds_desc.specs.declared.meta.Looked.TheVariants as Looked;
+ghost use Rattle.std.specs.Prelude.{◌≡◌, ◌<◌, ◌-◌, ◌^◌, ◌++◌, ◌∷◌, [], true, Some, length, position, refl, IfOk, OnOk, OnErr};
+ghost use Rattle.std.specs.List.{list_all};
+ghost use Rattle.ds_desc.specs.Contains.{contains, lies_ahead};
 ghost use Rattle.ds_rule.specs.declared.event.Event.TheVariants.{Write};
 ghost use Rattle.ds_rule.specs.declared.journal.JournalStep.TheVariants.{Look};
-ghost use Rattle.ds_rule.specs.Begin.{first_world, tiles};
+ghost use Rattle.ds_rule.specs.Begin.{first_world, is_leased, tiles};
 ghost use Rattle.ds_rule.specs.Close.{with_begin, close_status, closed};
 ghost use Rattle.ds_rule.specs.Moves.{moved};
+ghost use Rattle.ds_sim.specs.Looks.{LooksArmed, LooksUp};
 ghost use Rattle.ds_sim.specs.State.{refused_after, state_of};
 
-use crate::ranges::Ranges;
+use crate::deliver::deliver;
+use crate::look::{armed_at, armed_rows, desc_at, note_look, take_away};
 use crate::records::{end_last, last_status, settle_last};
-use ds_base::{Copies, Dir, Key, Stamp, TxnNo, Value};
-use ds_desc::{Infos, Looked, Meta};
+use ds_base::{Dir, Key, Stamp, TxnNo, Value};
+use ds_desc::{Looked, Meta, RangeDesc};
 use ds_kind::{Piece, TxnStatus};
+use ds_ranges::Ranges;
 use ds_rule::{
     Answer, ClusterRange, JournalStep, JournalSteps, RecordStatus, Records, TxnRecord, Wire,
 };
@@ -24,10 +28,12 @@ use std::mem;
 pub struct Sim {
     /// The ranges with all that they hold.
     pub ranges: Ranges,
+    /// Old descriptors that lookups are answered with, the first that contains the key; each once.
+    pub armed: Vec<RangeDesc>,
     /// The transactions so far.
     pub records: Records,
     /// The steps of the block that was begun last.
-    pub steps: JournalSteps,
+    pub steps: Vec<JournalStep>,
     /// Foreign writes of the block lie above this stamp.
     pub floor: Stamp,
     /// How many events were made.
@@ -52,14 +58,45 @@ fn refused_after(answer: &Answer, refused: u64) -> u64
     }
 }
 
-fn look_step(alloc: Global, key: &Key, dir: Dir, infos: &Infos) -> Result<JournalStep, AllocError>
-    ensures { IfOk result (λ s. s ≡ Look key.now dir (Looked.Rows infos.now)) }
+/// Answers the lookup with the armed descriptor at the place, which is armed no longer, and notes it.
+fn look_armed(
+    alloc: Global,
+    armed: &mut Vec<RangeDesc>,
+    at: usize,
+    key: &Key,
+    dir: Dir,
+    steps: &mut Vec<JournalStep>,
+) -> Result<Looked, AllocError>
+    requires { position (λ a. contains dir key.now a.span) (armed.old).items ≡ Some at }
+    ensures looks { IfOk result (λ l. LooksArmed key.now dir (armed.old).items (armed.new).items l) }
+    ensures steps { IfOk result (λ l. (steps.new).items ≡ (steps.old).items ++ Look key.now dir l ∷ []) }
+    ensures err { OnErr result ((armed.new).items ≡ (armed.old).items) }
+    ensures err_steps { OnErr result ((steps.new).items ≡ (steps.old).items) }
 {
-    Ok(JournalStep::Look {
-        key: key.copy(alloc)?,
-        dir,
-        looked: Looked::Rows(infos.copy(alloc)?),
-    })
+    let infos = armed_rows(alloc, desc_at(armed.as_slice(), at))?;
+    note_look(alloc, key, dir, &infos, steps)?;
+    take_away(armed, at);
+    Ok(Looked::Rows(infos))
+}
+
+/// Answers the lookup with the rows of the ranges, and notes it.
+fn look_up(
+    alloc: Global,
+    ranges: &Ranges,
+    key: &Key,
+    dir: Dir,
+    steps: &mut Vec<JournalStep>,
+) -> Result<Looked, AllocError>
+    requires { lies_ahead dir key.now ≡ true }
+    ensures looks { IfOk result (λ l. LooksUp key.now dir ranges.now l) }
+    ensures steps { IfOk result (λ l. (steps.new).items ≡ (steps.old).items ++ Look key.now dir l ∷ []) }
+    ensures err_steps { OnErr result ((steps.new).items ≡ (steps.old).items) }
+{
+    key.bytes();
+    ranges.known();
+    let infos = ranges.rows(alloc, key, dir)?;
+    note_look(alloc, key, dir, &infos, steps)?;
+    Ok(Looked::Rows(infos))
 }
 
 impl Sim {
@@ -68,13 +105,15 @@ impl Sim {
     /// The cluster as these ranges begin it.
     pub fn new(alloc: Global, ranges: &[ClusterRange]) -> Result<Sim, AllocError>
         requires tiled { tiles ranges.now ≡ true }
+        requires leased { list_all is_leased ranges.now ≡ true }
         requires few { length ranges.now < 2 ^ 32 - 1 }
         ensures { IfOk result (λ s. state_of s ≡ record { world = first_world ranges.now; past = []; floor = 0; refused = 0; lost = 0; ahead = [] }) }
     {
         Ok(Sim {
             ranges: Ranges::begin(alloc, ranges)?,
+            armed: Vec::new(alloc),
             records: Records::new(alloc),
-            steps: JournalSteps::new(alloc),
+            steps: Vec::new(alloc),
             floor: Stamp(0),
             count: 0,
             refused: 0,
@@ -93,7 +132,7 @@ impl Sim {
         ensures ok { OnOk result (state_of self.new ≡ record (state_of self.old) { world = moved (state_of self.old).world (Write key.now stamp value) }) }
         ensures err { OnErr result (self.new ≡ self.old) }
     {
-        self.ranges.foreign(alloc, key, stamp, value)?;
+        self.ranges.write(alloc, key, stamp, value)?;
         self.count += 1;
         Ok(())
     }
@@ -118,16 +157,16 @@ impl Sim {
     pub fn start_block(&mut self, alloc: Global, floor: Stamp)
         ensures { state_of self.new ≡ record (state_of self.old) { past = []; floor = floor.0 } }
     {
-        self.steps = JournalSteps::new(alloc);
+        self.steps = Vec::new(alloc);
         self.floor = floor;
     }
 
     /// The block's steps, in order.
     pub fn end_block(&mut self, alloc: Global) -> JournalSteps
-        ensures steps { result ≡ (self.old).steps }
+        ensures steps { result ≡ (self.old).steps.items }
         ensures state { state_of self.new ≡ record (state_of self.old) { past = [] } }
     {
-        mem::replace(&mut self.steps, JournalSteps::new(alloc))
+        JournalSteps::from_vec(mem::replace(&mut self.steps, Vec::new(alloc)))
     }
 
     /// The open transaction, whose record is the last, ends: a record that is not committed becomes
@@ -153,10 +192,10 @@ impl Meta for Sim {
     ghost lost = { λ _. 0 };
 
     fn lookup(&mut self, alloc: Global, key: &Key, dir: Dir) -> Result<Looked, AllocError> {
-        let infos = self.ranges.rows(alloc, key, dir)?;
-        let step = look_step(alloc, key, dir, &infos)?;
-        self.steps.push(alloc, step)?;
-        Ok(Looked::Rows(infos))
+        match armed_at(self.armed.as_slice(), key, dir) {
+            Some(at) => look_armed(alloc, &mut self.armed, at, key, dir, &mut self.steps),
+            None => look_up(alloc, &self.ranges, key, dir, &mut self.steps),
+        }
     }
 }
 
@@ -167,9 +206,14 @@ impl Wire for Sim {
     ghost state = { state_of };
 
     fn send(&mut self, alloc: Global, node: u8, piece: &Piece) -> Result<Answer, AllocError> {
-        let answer = self
-            .ranges
-            .deliver(alloc, &self.records, node, piece, &mut self.steps)?;
+        let answer = deliver(
+            alloc,
+            &mut self.ranges,
+            &mut self.records,
+            node,
+            piece,
+            &mut self.steps,
+        )?;
         self.refused = refused_after(&answer, self.refused);
         Ok(answer)
     }

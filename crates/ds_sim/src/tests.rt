@@ -1,12 +1,13 @@
 //! Each public call, on a cluster of one range.
-use crate::begin::tiles;
-use crate::ranges::Ranges;
+ghost use Rattle.std.specs.Prelude.{◌≡◌, None, IfOk};
+
 use crate::sim::Sim;
 use ds_base::{Dir, Key, Seq, Stamp, TxnNo, Value};
 use ds_desc::{Looked, Meta, Nodes};
-use ds_kind::kinds::{GetArgs, IncrementArgs};
+use ds_kind::kinds::{AdminSplitArgs, GetArgs, IncrementArgs};
 use ds_kind::{Body, Head, Item, Items, Piece, Request, TxnStatus};
-use ds_rule::{Answer, ClusterRange, JournalSteps, Records, Wire};
+use ds_ranges::{are_leased, tiles};
+use ds_rule::{Answer, ClusterRange, Wire};
 use std::alloc::Global;
 use std::test::Fail;
 
@@ -19,7 +20,9 @@ fn whole(alloc: Global) -> ClusterRange {
     }
 }
 
-fn piece(alloc: Global, txn: Option<TxnNo>, request: Request) -> Result<Piece, Fail> {
+fn piece(alloc: Global, txn: Option<TxnNo>, request: Request) -> Result<Piece, Fail>
+    ensures { IfOk result (λ p. p.head.left ≡ None) }
+{
     let head = Head {
         at: Stamp(10),
         txn,
@@ -80,11 +83,18 @@ fn is_mine(looked: &Looked) -> bool {
     }
 }
 
+fn rows_in(looked: &Looked) -> usize {
+    match looked {
+        Looked::Rows(infos) => infos.len(),
+        Looked::Lost => 0,
+    }
+}
+
 #[test]
 fn a_write_is_seen_in_a_block(rt: HostRuntime) -> Result<(), Fail> {
     let alloc = rt.alloc();
     let ranges = [whole(alloc)];
-    if tiles(&ranges) {
+    if tiles(&ranges) && are_leased(&ranges) {
         let mut sim = Sim::new(alloc, &ranges)?;
         sim.start_block(alloc, Stamp(0));
         if sim.count < 1000 {
@@ -101,7 +111,7 @@ fn a_write_is_seen_in_a_block(rt: HostRuntime) -> Result<(), Fail> {
 fn an_open_transaction_is_aborted(rt: HostRuntime) -> Result<(), Fail> {
     let alloc = rt.alloc();
     let ranges = [whole(alloc)];
-    if tiles(&ranges) {
+    if tiles(&ranges) && are_leased(&ranges) {
         let mut sim = Sim::new(alloc, &ranges)?;
         sim.begin(alloc, TxnNo(1), Stamp(10))?;
         let answer = sim.send(alloc, 1, &piece(alloc, Some(TxnNo(1)), increment(alloc))?)?;
@@ -116,7 +126,7 @@ fn an_open_transaction_is_aborted(rt: HostRuntime) -> Result<(), Fail> {
 fn the_first_row_is_the_range(rt: HostRuntime) -> Result<(), Fail> {
     let alloc = rt.alloc();
     let ranges = [whole(alloc)];
-    if tiles(&ranges) {
+    if tiles(&ranges) && are_leased(&ranges) {
         let mut sim = Sim::new(alloc, &ranges)?;
         let looked = sim.lookup(alloc, &Key::least(alloc), Dir::Forward)?;
         assert!(rt; is_mine(&looked));
@@ -126,20 +136,19 @@ fn the_first_row_is_the_range(rt: HostRuntime) -> Result<(), Fail> {
 }
 
 #[test]
-fn ranges_by_themselves(rt: HostRuntime) -> Result<(), Fail> {
+fn a_piece_splits_its_range(rt: HostRuntime) -> Result<(), Fail> {
     let alloc = rt.alloc();
-    let cluster = [whole(alloc)];
-    if tiles(&cluster) {
-        let mut ranges = Ranges::begin(alloc, &cluster)?;
-        let least = Key::least(alloc);
-        ranges.foreign(alloc, &least, Stamp(1), Some(Value::Int(4)))?;
-        ranges.settle(alloc, TxnNo(1), None)?;
-        let mut steps = JournalSteps::new(alloc);
-        let piece = piece(alloc, None, get(alloc))?;
-        let records = Records::new(alloc);
-        let answer = ranges.deliver(alloc, &records, 1, &piece, &mut steps)?;
-        assert!(rt; shows(&answer, 4));
-        assert!(rt; ranges.rows(alloc, &least, Dir::Forward)?.len() == 1);
+    let ranges = [whole(alloc)];
+    if tiles(&ranges) && are_leased(&ranges) {
+        let mut sim = Sim::new(alloc, &ranges)?;
+        let Ok(key) = Key::new(alloc, &[109]) else {
+            return Ok(());
+        };
+        let split = Request::AdminSplit(AdminSplitArgs { key });
+        let answer = sim.send(alloc, 1, &piece(alloc, None, split)?)?;
+        assert!(rt; matches!(answer, Answer::Done(_)));
+        let looked = sim.lookup(alloc, &Key::least(alloc), Dir::Forward)?;
+        assert!(rt; rows_in(&looked) == 2);
     }
     Ok(())
 }

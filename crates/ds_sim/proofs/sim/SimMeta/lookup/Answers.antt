@@ -1,17 +1,20 @@
-use Rattle.std.proofs.Common.{rules, ◌≡◌, ◌++◌, ◌∷◌, [], true}
-use Rattle.ds_desc.specs.Contains.{lies_ahead}
-use Rattle.ds_desc.specs.declared.meta.Looked.TheVariants as Looked
-use Rattle.ds_rule.specs.declared.journal.JournalStep.TheVariants.{Look}
-use Rattle.ds_rule.specs.World.{look_rows}
-use Rattle.ds_sim.specs.State.{world_of}
-use Rattle.ds_sim.proofs.Sending.{look_steps}
+use Rattle.std.proofs.Common.{rules, ◌≡◌, None, position}
+use Rattle.ds_desc.specs.Contains.{contains}
+use Rattle.ds_sim.proofs.Looking.{armed-first-ok, armed-looks, up-looks}
 use Rattle.ds_sim.proofs.sim.SimMeta.lookup.Goals as goal
 
-pub returns-clause-looked : goal.returns-clause-looked
-returns-clause-looked c =
+pub returns-in-Some-clause-rows : goal.returns-in-Some-clause-rows
+returns-in-Some-clause-rows c = armed-first-ok c.args.key.now c.args.dir c.args.self.now.armed.items c.look_armed.new.armed.items c.look_armed.result c.look_armed.ensures.looks
+
+pub returns-in-Some-clause-looked : goal.returns-in-Some-clause-looked
+returns-in-Some-clause-looked c =
     let s = c.args.self.now in
-    let infos = c.in_ok-infos.infos in
-    let later : c.push.new.self ≡ s.steps ++ Look c.args.key.now c.args.dir (Looked.Rows infos) ∷ [] = search rules in
-    let rows : infos ≡ look_rows (world_of s.ranges s.records s.count) c.args.key.now c.args.dir = search rules in
-    let ahead : lies_ahead c.args.dir c.args.key.now ≡ true = search rules in
-    look_steps s.ranges s.records s.count s.steps c.push.new.self s.floor.0 s.refused c.args.key.now c.args.dir infos later rows ahead
+    armed-looks c.args.key.now c.args.dir s.ranges s.armed.items c.look_armed.new.armed.items s.records s.count s.steps.items c.look_armed.new.steps.items s.floor.0 s.refused c.look_armed.result
+    c.look_armed.ensures.looks c.requires c.look_armed.ensures.steps c.look_armed.ensures.err c.look_armed.ensures.err_steps
+
+pub returns-in-None-clause-looked : goal.returns-in-None-clause-looked
+returns-in-None-clause-looked c =
+    let s = c.args.self.now in
+    let none : position (λ a. contains c.args.dir c.args.key.now a.span) c.args.self.now.armed.items ≡ None = search rules in
+    up-looks c.args.key.now c.args.dir s.ranges s.armed.items s.records s.count s.steps.items c.look_up.new.steps.items s.floor.0 s.refused c.look_up.result none
+    c.look_up.ensures.looks c.requires c.look_up.ensures.steps c.look_up.ensures.err_steps
