@@ -4,5 +4,6 @@ pub mod Delivering
 pub mod Done
 pub mod Examples
 pub mod Looking
+pub mod Moving
 pub mod Sending
 pub mod Shifting

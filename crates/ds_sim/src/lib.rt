@@ -2,6 +2,7 @@
 #![tactic(auto)]
 
 mod deliver;
+mod event;
 mod look;
 mod records;
 mod shift;

@@ -7,7 +7,7 @@ use ds_desc::{Looked, Meta, Nodes};
 use ds_kind::kinds::{AdminSplitArgs, GetArgs, IncrementArgs};
 use ds_kind::{Body, Head, Item, Items, Piece, Request, TxnStatus};
 use ds_ranges::{are_leased, tiles};
-use ds_rule::{Answer, ClusterRange, Wire};
+use ds_rule::{Answer, ClusterRange, Event, Wire};
 use std::alloc::Global;
 use std::test::Fail;
 
@@ -149,6 +149,31 @@ fn a_piece_splits_its_range(rt: HostRuntime) -> Result<(), Fail> {
         assert!(rt; matches!(answer, Answer::Done(_)));
         let looked = sim.lookup(alloc, &Key::least(alloc), Dir::Forward)?;
         assert!(rt; rows_in(&looked) == 2);
+    }
+    Ok(())
+}
+
+#[test]
+fn an_old_descriptor_answers_after_a_split(rt: HostRuntime) -> Result<(), Fail> {
+    let alloc = rt.alloc();
+    let ranges = [whole(alloc)];
+    if tiles(&ranges) && are_leased(&ranges) {
+        let mut sim = Sim::new(alloc, &ranges)?;
+        let Ok(key) = Key::new(alloc, &[109]) else {
+            return Ok(());
+        };
+        if sim.count < 1000 {
+            sim.event(alloc, &Event::Split { key })?;
+        }
+        if sim.count < 1000 {
+            let key = Key::least(alloc);
+            sim.event(alloc, &Event::Stale { key, back: 1 })?;
+        }
+        let first = sim.lookup(alloc, &Key::least(alloc), Dir::Forward)?;
+        assert!(rt; rows_in(&first) == 1);
+        let second = sim.lookup(alloc, &Key::least(alloc), Dir::Forward)?;
+        assert!(rt; rows_in(&second) == 2);
+        assert!(rt; sim.count == 2);
     }
     Ok(())
 }
