@@ -7,7 +7,7 @@ use Rattle.ds_base.specs.declared.value.Dir.{Dir}
 use Rattle.ds_base.specs.declared.value.Dir.TheVariants.{Forward, Reverse}
 use Rattle.std.proofs.lemmas.List.{reverse-append}
 use Rattle.ds_base.proofs.KeyOrder.{key_le-not_lt}
-use Rattle.ds_base.proofs.SmallFacts.{and_first, and_second, not_greater}
+use Rattle.ds_base.proofs.SmallFacts.{not_greater}
 use Rattle.ds_base.proofs.OrderedFacts.{le_of_not_lt, not_lt_of_le, not_le_of_lt}
 use Rattle.ds_rule.proofs.Routes.{least}
 use Rattle.ds_desc.specs.Contains.{contains, lies_ahead, first_contains}

@@ -6,10 +6,7 @@ use Rattle.std.specs.declared.alloc.AllocError.{AllocError}
 use Rattle.ds_base.proofs.SmallFacts.{none_some, some_none, some_same}
 use Rattle.ds_desc.specs.declared.refusal.Refusal.TheVariants.{NotFound}
 use Rattle.ds_kind.specs.declared.batch.Piece.{Piece}
-use Rattle.ds_kind.specs.declared.reply.Failure.{Failure}
 use Rattle.ds_kind.specs.declared.reply.Reply.{Reply}
-use Rattle.ds_cell.specs.Ask.{Cells}
-use Rattle.ds_cell.specs.Store.{WriteAt}
 use Rattle.ds_range.specs.Evaluates.{answer_to}
 use Rattle.ds_range.specs.Keeps.{Kept}
 use Rattle.ds_range.specs.declared.piece.Evaluation.{Evaluation}
@@ -17,8 +14,8 @@ use Rattle.ds_rule.specs.declared.answer.Answer.{Answer}
 use Rattle.ds_rule.specs.declared.answer.Answer.TheVariants.{Done, Failed, Refused}
 use Rattle.ds_rule.specs.declared.record.TxnRecord.{TxnRecord}
 use Rattle.ds_rule.specs.Asking.{Made, Gives, Fails, finished}
-use Rattle.ds_rule.specs.Deliver.{Stop, answer_at, answer_made, deliver_answer, deliver_answer_to, deliver_world, deliver_world_to, served, stop_answer, stops, with_cells, world_at, world_made}
-use Rattle.ds_rule.specs.Endings.{all_ended, records_made}
+use Rattle.ds_rule.specs.Deliver.{Stop, answer_at, answer_made, deliver_answer_to, deliver_world_to, served, stop_answer, with_cells, world_at, world_made}
+use Rattle.ds_rule.specs.Endings.{records_made}
 use Rattle.ds_rule.specs.World.{World, Range, Tiles, has_id}
 use Rattle.ds_rule.proofs.Service.{held}
 use Rattle.ds_ranges.specs.Layout.{Became, Layout, layout}

@@ -1,5 +1,5 @@
 -- A lookup answered by an armed descriptor, or by the ranges.
-use Rattle.std.proofs.Common.{◌≡◌, ℕ, zero, suc, ◌+◌, ◌<◌, ◌≤◌, Bool, true, false, cond, not, List, [], ◌∷◌, ◌++◌, Option, Some, None, refl, sym, ap, ◌∙◌, subst, length, position, find, nat_lt, arith, Result, Ok, Err, IfOk, OnErr}
+use Rattle.std.proofs.Common.{◌≡◌, ℕ, zero, suc, ◌+◌, ◌<◌, ◌≤◌, Bool, true, false, cond, not, List, [], ◌∷◌, ◌++◌, Some, None, refl, sym, ap, ◌∙◌, subst, length, position, find, nat_lt, arith, Result, Ok, Err, IfOk, OnErr}
 use Rattle.std.specs.List.{position_or_len, remove, slice_get}
 use Rattle.std.specs.declared.alloc.AllocError.{AllocError}
 use Rattle.ds_base.proofs.SmallFacts.{ge_of, lt_of, none_some, some_none, some_same}
@@ -14,7 +14,7 @@ use Rattle.ds_rule.specs.declared.journal.JournalStep.TheVariants.{Look}
 use Rattle.ds_rule.specs.declared.record.TxnRecord.{TxnRecord}
 use Rattle.ds_rule.specs.Clauses.{Looks, Steps}
 use Rattle.ds_rule.specs.Pieces.{Each}
-use Rattle.ds_rule.specs.World.{World, look_rows, look_world, rows_at, without_first}
+use Rattle.ds_rule.specs.World.{World, rows_at, without_first}
 use Rattle.ds_ranges.specs.Layout.{Layout}
 use Rattle.ds_ranges.specs.Places.{IsFirst}
 use Rattle.ds_ranges.proofs.Finding.{first-found, none-found}

@@ -1,5 +1,5 @@
 -- How a lookup is answered, by a descriptor that is armed or by the ranges.
-use Rattle.std.specs.Prelude.{◌≡◌, ℕ, List, [], ◌∷◌, Option, Some, None, find}
+use Rattle.std.specs.Prelude.{◌≡◌, ℕ, List, [], ◌∷◌, Some, None, find}
 use Rattle.ds_base.specs.declared.value.Dir.{Dir}
 use Rattle.ds_desc.specs.Contains.{FirstContains, contains}
 use Rattle.ds_desc.specs.declared.desc.Info.{Info}

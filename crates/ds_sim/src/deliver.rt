@@ -2,7 +2,6 @@
 ghost use Rattle.std.specs.Prelude.{◌≡◌, ◌++◌, ◌∷◌, [], None, find, IfOk, OnOk, OnErr};
 ghost use Rattle.std.specs.Option.{option_map};
 ghost use Rattle.ds_kind.specs.Parts.{requests_of};
-ghost use Rattle.ds_range.specs.Evaluates.{answer_to};
 ghost use Rattle.ds_rule.specs.declared.answer.Answer.TheVariants.{Done};
 ghost use Rattle.ds_rule.specs.declared.journal.JournalStep.TheVariants.{Send};
 ghost use Rattle.ds_rule.specs.Asking.{txn_of};

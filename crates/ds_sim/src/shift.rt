@@ -66,11 +66,7 @@ pub(crate) fn shifts_of(
 }
 
 /// Makes one shift. Want of memory changes nothing.
-fn make_shift(
-    alloc: Global,
-    ranges: &mut Ranges,
-    shift: &Shift,
-) -> Result<(), AllocError>
+fn make_shift(alloc: Global, ranges: &mut Ranges, shift: &Shift) -> Result<(), AllocError>
     ensures ok { OnOk result (Became (shift_world shift.now) ranges.old ranges.new) }
     ensures err { OnErr result (ranges.new ≡ ranges.old) }
 {
