@@ -19,10 +19,7 @@ fn put_last(cells: &mut BTreeMap<Key, Cell>, key: Key, cell: Cell) -> Result<(),
     Ok(())
 }
 
-fn copy_cells(
-    alloc: Global,
-    cells: &BTreeMap<Key, Cell>,
-) -> Result<BTreeMap<Key, Cell>, AllocError>
+fn copy_cells(alloc: Global, cells: &BTreeMap<Key, Cell>) -> Result<BTreeMap<Key, Cell>, AllocError>
     ensures { IfOk result (λ made. made.entries ≡ cells.now.entries) }
 {
     ordered(cells);

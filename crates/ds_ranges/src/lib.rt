@@ -15,9 +15,9 @@ mod rows;
 mod serve;
 mod settle;
 mod shape;
-mod touched;
 #[cfg(test)]
 mod tests;
+mod touched;
 
 pub use begin::{are_leased, tiles};
 pub use ranges::Ranges;

@@ -86,12 +86,7 @@ fn touched<'a>(ranges: &'a [RangeState], items: &Items) -> &'a [RangeState]
 impl Ranges {
     /// The rows of the ranges that overlap the least span that holds all items, the first eight in the
     /// direction.
-    pub fn overlapping(
-        &self,
-        alloc: Global,
-        items: &Items,
-        dir: Dir,
-    ) -> Result<Infos, AllocError>
+    pub fn overlapping(&self, alloc: Global, items: &Items, dir: Dir) -> Result<Infos, AllocError>
         ensures { IfOk result (λ is. is ≡ take 8 (map (λ r. r.info) (filter (overlaps items.now) (in_order dir self.now.ranges)))) }
     {
         first_rows(alloc, touched(self.items.as_slice(), items), dir, 8)

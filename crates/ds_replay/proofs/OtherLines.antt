@@ -101,15 +101,15 @@ begin-line sim new begun txn s p t k who is at =
     let client : record { number = begun + 1; stamp = t.0; epoch = 0; last = 0 } ≡ asker_of txn = ap asker_of (sym who) in
     let then : Played = record { world = with_begin (next_asker t s.asks) s.world; asks = record { asker = Some (next_asker t s.asks); begun = s.asks.begun + 1 } } in
     quiet-line (State.Closed sim begun) (State.Open new txn (begun + 1)) (lines.Begin t k) s then p (with_txn t p) (refl, refl) (tt, refl) refl tt (
-        record {
-          world = ap (λ a. with_begin a s.world) asked ∙ ap (with_begin (record { number = begun + 1; stamp = t.0; epoch = 0; last = 0 })) at.0.world ∙ sym (ap (λ z. z.world) is);
-          stands = subst (λ a. StandsFor (with_begin a s.world) (with_txn t p)) stored (begin-stands s.world p (new_txn (p.begun + 1) t) at.2 refl refl refl at.0.stands);
-          steady = begin-steady s.world (next_asker t s.asks) at.0.steady;
-          played = ap (λ n. n + 1) at.0.played;
-          stored = ap (λ n. n + 1) at.0.stored;
-        },
-        ap Some (asked ∙ client),
-        record { asker = stored ∙ asked ∙ client; fate = refl; known = tt },
+      record {
+        world = ap (λ a. with_begin a s.world) asked ∙ ap (with_begin (record { number = begun + 1; stamp = t.0; epoch = 0; last = 0 })) at.0.world ∙ sym (ap (λ z. z.world) is);
+        stands = subst (λ a. StandsFor (with_begin a s.world) (with_txn t p)) stored (begin-stands s.world p (new_txn (p.begun + 1) t) at.2 refl refl refl at.0.stands);
+        steady = begin-steady s.world (next_asker t s.asks) at.0.steady;
+        played = ap (λ n. n + 1) at.0.played;
+        stored = ap (λ n. n + 1) at.0.stored;
+      },
+      ap Some (asked ∙ client),
+      record { asker = stored ∙ asked ∙ client; fate = refl; known = tt },
     )
 
 -- a close

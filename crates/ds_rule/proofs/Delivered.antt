@@ -148,8 +148,8 @@ pub held_tiles : (s : List ℕ) (w : World) (p : Piece) (r : Range) (cells : Cel
 held_tiles s w p r cells ws rs is all gives t =
     tiles_holding (has_id p.range) (finished p.head ws cells) s w.ranges r is
     (λ a g.
-        let f = subst (FitsMade a r) gives (fits_served a r w.records p.head p.head.left p.items r.cells all g) in
-        fits_committed a r p.head p.head.txn ws cells f.1 f.0) t
+    let f = subst (FitsMade a r) gives (fits_served a r w.records p.head p.head.left p.items r.cells all g) in
+    fits_committed a r p.head p.head.txn ws cells f.1 f.0) t
 
 -- so it is where the range serves it
 pub served_tiles : (s : List ℕ) (w : World) (node : ℕ) (p : Piece) (r : Range) (cells : Cells) (ws : List WriteAt) (rs : List Reply) → find (has_id p.range) w.ranges ≡ Some r → stops w node p r ≡ None → served w p r ≡ Gives cells ws rs → Tiles s w.ranges → Tiles s (with_cells p.range (finished p.head ws cells) w).ranges
