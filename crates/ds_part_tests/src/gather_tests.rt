@@ -63,11 +63,8 @@ fn part_of_two(alloc: Global) -> Result<Part, Fail>
 {
     let one = item(alloc, Op::Scan, 3, b"a", b"z")?;
     let other = item(alloc, Op::Delete, 5, b"a", b"z")?;
-    let mut items = Items::new(alloc);
-    items.push(alloc, one)?;
-    items.push(alloc, other)?;
     Ok(Part {
-        items,
+        items: Items::from_vec(vec![in alloc; one, other]?),
         dir: Dir::Forward,
     })
 }
@@ -172,12 +169,31 @@ fn is_reply(op: Op, reply: Option<&Reply>, want: &[u8]) -> bool {
     }
 }
 
+// Puts what one piece is answered.
+fn put(
+    alloc: Global,
+    gather: &mut Gather,
+    op: Op,
+    byte: u8,
+    resume: Option<Span>,
+) -> Result<(), Fail> {
+    let answer = answer(alloc, op, byte, resume)?;
+    let piece = piece(alloc, op, byte)?;
+    Ok(gather.put(alloc, &piece, answer)?)
+}
+
+// The same for both requests of a part.
+fn put_both(alloc: Global, gather: &mut Gather, byte: u8) -> Result<(), Fail> {
+    let answer = answer_of_two(alloc, byte)?;
+    let piece = piece_of_two(alloc, byte)?;
+    Ok(gather.put(alloc, &piece, answer)?)
+}
+
 // Whether the answers of these pieces, put in this order, gather to the one reply with these.
 fn gathers(alloc: Global, op: Op, order: &[u8], want: &[u8]) -> Result<bool, Fail> {
     let mut gather = Gather::new(alloc, &part(alloc, op)?)?;
     for byte in order {
-        let piece = piece(alloc, op, *byte)?;
-        gather.put(alloc, &piece, answer(alloc, op, *byte, None)?)?;
+        put(alloc, &mut gather, op, *byte, None)?;
     }
     let replies = gather.take();
     Ok(replies.len() == 1 && is_reply(op, replies.get(0), want))
@@ -187,8 +203,7 @@ fn gathers(alloc: Global, op: Op, order: &[u8], want: &[u8]) -> Result<bool, Fai
 fn gathers_both(alloc: Global, order: &[u8], want: &[u8]) -> Result<bool, Fail> {
     let mut gather = Gather::new(alloc, &part_of_two(alloc)?)?;
     for byte in order {
-        let piece = piece_of_two(alloc, *byte)?;
-        gather.put(alloc, &piece, answer_of_two(alloc, *byte)?)?;
+        put_both(alloc, &mut gather, *byte)?;
     }
     let replies = gather.take();
     Ok(
@@ -196,6 +211,13 @@ fn gathers_both(alloc: Global, order: &[u8], want: &[u8]) -> Result<bool, Fail> 
             && is_reply(Op::Scan, replies.get(0), want)
             && is_reply(Op::Delete, replies.get(1), want),
     )
+}
+
+// The replies of a scan after one piece, whose answer left a resume span.
+fn gathered_with(alloc: Global, resume: Span) -> Result<Replies, Fail> {
+    let mut gather = Gather::new(alloc, &part(alloc, Op::Scan)?)?;
+    put(alloc, &mut gather, Op::Scan, b'a', Some(resume))?;
+    Ok(gather.take())
 }
 
 // Whether the one reply has a resume span from the first key up to the second.
@@ -240,11 +262,7 @@ fn nothing_put_is_the_empty_reply(rt: HostRuntime) -> Result<(), Fail> {
 #[test]
 fn a_resume_span_is_kept(rt: HostRuntime) -> Result<(), Fail> {
     let alloc = rt.alloc();
-    let mut gather = Gather::new(alloc, &part(alloc, Op::Scan)?)?;
-    let piece = piece(alloc, Op::Scan, b'a')?;
     let span = Span::new(key(alloc, b"a\0")?, key(alloc, b"b")?).map_err(|_| "a span")?;
-    gather.put(alloc, &piece, answer(alloc, Op::Scan, b'a', Some(span))?)?;
-    let replies = gather.take();
-    assert!(rt; resumes(&replies, b"a\0", b"b"));
+    assert!(rt; resumes(&gathered_with(alloc, span)?, b"a\0", b"b"));
     Ok(())
 }
