@@ -66,12 +66,9 @@ fn one_call(
     alloc: Global,
     cache: &mut RangeCache,
     numbers: &mut Numbers,
-    keys: u32,
+    at: u32,
     call: u32,
-) -> Result<u64, AllocError>
-    requires { 0 < keys }
-{
-    let at = numbers.below(keys);
+) -> Result<u64, AllocError> {
     let sort = numbers.below(8);
     if sort < 3 {
         let width = numbers.below(8);
@@ -92,18 +89,39 @@ fn one_call(
     }
 }
 
+/// The key of the next call: the one after the last call's, or another one at random.
+fn next_place(numbers: &mut Numbers, keys: u32, last: u32, walks: bool) -> u32
+    requires { 0 < keys }
+{
+    if walks {
+        last.saturating_add(1) % keys
+    } else {
+        numbers.below(keys)
+    }
+}
+
 /// Fills a cache of this size, at least 1 and at most 2^20, makes some calls of it, and gives a
-/// number that depends on each answer.
-pub(crate) fn cache_calls(alloc: Global, size: u32, calls: u32) -> Result<u64, AllocError> {
+/// number that depends on each answer. So many calls one after another go from key to key, as the
+/// pieces of a scan do; then another place is drawn.
+pub(crate) fn cache_calls(
+    alloc: Global,
+    size: u32,
+    calls: u32,
+    together: u32,
+) -> Result<u64, AllocError>
+    requires { 0 < together }
+{
     let size = size.max(1).min(PLACES);
     let mut cache = RangeCache::new(alloc, size)?;
     for first in 0..size {
         insert(alloc, &mut cache, first, 1, 1)?;
     }
     let mut numbers = Numbers::new();
+    let mut at = 0;
     let mut sum = 0;
     for call in 0..calls {
-        let answer = one_call(alloc, &mut cache, &mut numbers, 2 * size, call)?;
+        at = next_place(&mut numbers, 2 * size, at, call % together != 0);
+        let answer = one_call(alloc, &mut cache, &mut numbers, at, call)?;
         sum = (sum % (1 << 32) * 31 + answer % (1 << 32)) % (1 << 32);
     }
     Ok(sum)

@@ -1,7 +1,8 @@
 //! Does a given amount of work with a part of the sender, and prints one number that depends on
 //! all of it, so that `tests/measure.py` can time it.
 //!
-//! `ds_bench cache SIZE CALLS` makes a cache of SIZE places, fills it, and makes CALLS calls of it.
+//! `ds_bench cache SIZE CALLS` makes a cache of SIZE places, fills it, and makes CALLS calls of it,
+//! each at another key; `ds_bench walk SIZE CALLS` does so at sixteen neighbouring keys in turn.
 #![tactic(auto)]
 
 mod cache;
@@ -16,7 +17,7 @@ fn main(rt: HostRuntime) -> io::Result<()> {
     let words = arguments(&rt)?;
     match work(rt.alloc(), &words)? {
         Some(sum) => println!(rt; "{sum}")?,
-        None => println!(rt; "usage: ds_bench cache SIZE CALLS")?,
+        None => println!(rt; "usage: ds_bench cache|walk SIZE CALLS")?,
     }
     Ok(())
 }
@@ -38,7 +39,8 @@ fn work(alloc: Global, words: &[String]) -> Result<Option<u64>, AllocError> {
         return Ok(None);
     };
     match name.as_str() {
-        "cache" => Ok(Some(cache_calls(alloc, size, calls)?)),
+        "cache" => Ok(Some(cache_calls(alloc, size, calls, 1)?)),
+        "walk" => Ok(Some(cache_calls(alloc, size, calls, 16)?)),
         _ => Ok(None),
     }
 }
