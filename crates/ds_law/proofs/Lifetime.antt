@@ -19,8 +19,9 @@ use Rattle.ds_rule.specs.Begin.{ranges_of, first_world, is_leased}
 use Rattle.ds_rule.specs.Close.{new_record, with_begin, settle_cells, settle_range, settle_by, commit_of, closed, close_status, status_of_last, said_status}
 use Rattle.ds_rule.specs.Keeping.{IsNewest, Keeps}
 use Rattle.ds_rule.specs.Pieces.{Each}
+use Rattle.ds_rule.specs.Records.{record_number}
 use Rattle.ds_rule.specs.Steady.{has_lease, ids_differ}
-use Rattle.ds_rule.specs.StandsFor.{IsAt, AllUpTo, open_stamp, IsIntentOf, HasRecord, HasRecordOf, IsKnown, status_for, record_for, record_number, StandsFor}
+use Rattle.ds_rule.specs.StandsFor.{IsAt, AllUpTo, open_stamp, IsIntentOf, HasRecord, HasRecordOf, IsKnown, status_for, record_for, StandsFor}
 use Rattle.ds_rule.specs.World.{World, Range, end_of, contents, cell_of, Inside, Tiles}
 use Rattle.ds_world.proofs.First.{first-keeps}
 use Rattle.ds_world.proofs.Stretches.{keeps-same}
