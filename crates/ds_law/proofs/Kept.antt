@@ -1,19 +1,14 @@
 -- What a batch's writes keep, and where they stand.
-use Rattle.std.proofs.Common.{◌≡◌, ℕ, true, false, cond, List, [], ◌∷◌, Option, refl}
+use Rattle.std.proofs.Common.{◌≡◌, ℕ, true, List, [], ◌∷◌, Option}
 use Rattle.std.specs.List.{list_all}
 use Rattle.ds_base.specs.Order.{holds}
-use Rattle.ds_base.specs.Ordered.{between}
 use Rattle.ds_base.specs.declared.value.Value.{Value}
 use Rattle.ds_base.proofs.SmallFacts.{and_first, and_second}
 use Rattle.ds_rule.proofs.Eachs.{each-append, each-left, each-right}
-use Rattle.ds_kind.specs.Reach.{Reach, At, Over, extent_of}
 use Rattle.ds_kind.specs.Request.{reach_of, span_of}
 use Rattle.ds_kind.specs.declared.batch.Head.{Head}
 use Rattle.ds_kind.specs.declared.batch.Item.{Item}
 use Rattle.ds_kind.specs.declared.reply.Reply.{Reply}
-use Rattle.ds_cell.specs.declared.verdict.Verdict.{Verdict}
-use Rattle.ds_cell.specs.declared.verdict.Verdict.TheVariants.{Keep, Put, Refuse}
-use Rattle.ds_cell.specs.Content.{Content}
 use Rattle.ds_cell.specs.Ask.{AllIn, StandsIn, Cells, key_of, Asked, Failed, Gave}
 use Rattle.ds_cell.specs.Change.{wrote}
 use Rattle.ds_cell.specs.LawProofs.{stands_at}
