@@ -14,7 +14,7 @@ use Rattle.ds_rule.specs.Asking.{Made, Gives, Fails, txn_of}
 use Rattle.ds_rule.specs.Deliver.{answer_made, answer_at, stops, Stop, Turned, Ended, stop_answer, served, deliver_answer, deliver_answer_to, holds_item, mismatch_rows, ends, status_stops}
 use Rattle.ds_rule.specs.Journal.{Happening, Runs}
 use Rattle.ds_rule.specs.Pieces.{Each}
-use Rattle.ds_rule.specs.StandsFor.{record_number}
+use Rattle.ds_rule.specs.Records.{record_number}
 use Rattle.ds_rule.specs.World.{World, Range, has_id}
 use Rattle.ds_law.proofs.Truth.{IsRead, served-reads}
 

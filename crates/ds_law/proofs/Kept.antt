@@ -1,22 +1,17 @@
 -- What a batch's writes keep, and where they stand.
-use Rattle.std.proofs.Common.{◌≡◌, ℕ, true, false, cond, List, [], ◌∷◌, Option, refl}
+use Rattle.std.proofs.Common.{◌≡◌, ℕ, true, List, [], ◌∷◌, Option}
 use Rattle.std.specs.List.{list_all}
 use Rattle.ds_base.specs.Order.{holds}
-use Rattle.ds_base.specs.Ordered.{between}
 use Rattle.ds_base.specs.declared.value.Value.{Value}
 use Rattle.ds_base.proofs.SmallFacts.{and_first, and_second}
 use Rattle.ds_rule.proofs.Eachs.{each-append, each-left, each-right}
-use Rattle.ds_kind.specs.Reach.{Reach, At, Over, extent_of}
 use Rattle.ds_kind.specs.Request.{reach_of, span_of}
 use Rattle.ds_kind.specs.declared.batch.Head.{Head}
 use Rattle.ds_kind.specs.declared.batch.Item.{Item}
 use Rattle.ds_kind.specs.declared.reply.Reply.{Reply}
-use Rattle.ds_cell.specs.declared.verdict.Verdict.{Verdict}
-use Rattle.ds_cell.specs.declared.verdict.Verdict.TheVariants.{Keep, Put, Refuse}
-use Rattle.ds_cell.specs.Content.{Content}
-use Rattle.ds_cell.specs.Ask.{Cells, key_of, Asked, Failed, Gave, one_more, ask_each, places}
+use Rattle.ds_cell.specs.Ask.{AllIn, StandsIn, Cells, key_of, Asked, Failed, Gave}
 use Rattle.ds_cell.specs.Change.{wrote}
-use Rattle.ds_cell.specs.LawProofs.{own_span}
+use Rattle.ds_cell.specs.LawProofs.{stands_at}
 use Rattle.ds_cell.specs.Requests.{deed_of, ask_request}
 use Rattle.ds_cell.specs.Store.{WriteAt, put_cell, write_all, under_number}
 use Rattle.ds_rule.specs.Asking.{Made, Gives, Fails, and_before, and_then, made_by, ask_item, ask_all, at_of}
@@ -56,49 +51,16 @@ all-keeps h N P [] cells kept p = λ all. p
 all-keeps h N P (i ∷ is) cells kept p =
     then-keeps N P (ask_item h i cells) (ask_all h is) (made-keeps h N P i (ask_request i.request (at_of h i.seq.0) cells) cells kept p) (λ out q. all-keeps h N P is out kept q)
 
--- the writes stand in the span
-
-abbrev pub KeysIn : {X : Type 0} → List ℕ → List ℕ → List (List ℕ × X) → Type 0
-KeysIn s e [] = Unit {0}
-KeysIn s e (x ∷ xs) = (holds s e x.0 ≡ true) × KeysIn s e xs
-
-between-in : {X : Type 0} (s e : List ℕ) (xs : List (List ℕ × X)) → KeysIn s e (between key_of s e xs)
-between-in s e [] = tt
-between-in s e (x ∷ xs) =
-    elim (holds s e x.0) as (λ t. holds s e x.0 ≡ t → KeysIn s e (cond t (x ∷ between key_of s e xs) (between key_of s e xs))) [
-      | true ↦ λ h. (h, between-in s e xs)
-      | false ↦ λ h. between-in s e xs
-    ] refl
-
-places-in : (reach : Reach) (cells : Cells) → KeysIn (extent_of reach).start (extent_of reach).end (places reach cells)
-places-in (At k) cells = (own_span k, tt)
-places-in (Over s e) cells = between-in s e cells
-
-abbrev WritesIn : List ℕ → List ℕ → Asked → Type 0
-WritesIn s e (Failed k f) = Unit {0}
-WritesIn s e (Gave bs ws) = KeysIn s e ws
-
-more-in : (s e k : List ℕ) (v : Verdict) (a : Asked) → holds s e k ≡ true → WritesIn s e a → WritesIn s e (one_more k v a)
-more-in s e k (Refuse f) a h all = tt
-more-in s e k (Keep b) (Failed q f) h all = tt
-more-in s e k (Put w b) (Failed q f) h all = tt
-more-in s e k (Keep b) (Gave bs ws) h all = all
-more-in s e k (Put w b) (Gave bs ws) h all = (h, all)
-
-each-in : (s e : List ℕ) (d : Content → Verdict) (ps : Cells) → KeysIn s e ps → WritesIn s e (ask_each d ps)
-each-in s e d [] all = tt
-each-in s e d (p ∷ ps) all = more-in s e p.0 (d p.1) (ask_each d ps) all.0 (each-in s e d ps all.1)
-
 -- all writes stand at keys of the span
 abbrev pub Within : List ℕ → List ℕ → Made → Type 0
 Within s e (Fails f) = Unit {0}
 Within s e (Gives cells ws rs) = Each (λ w. holds s e w.key ≡ true) ws
 
-made-within : (r : Range) (h : Head) (i : Item) (a : Asked) (cells : Cells) → holds_item r i ≡ true → WritesIn (span_of i.request).start (span_of i.request).end a → Within (start_of r) (end_of r) (made_by h i a cells)
+made-within : (r : Range) (h : Head) (i : Item) (a : Asked) (cells : Cells) → holds_item r i ≡ true → StandsIn (span_of i.request).start (span_of i.request).end a → Within (start_of r) (end_of r) (made_by h i a cells)
 made-within r h i (Failed k f) cells fits all = tt
-made-within r h i (Gave bs ws) cells fits all = each ws all
+made-within r h i (Gave bs ws) cells fits all = each ws all.1
   where
-    each : (ws : List (List ℕ × Option Value)) → KeysIn (span_of i.request).start (span_of i.request).end ws → Each (λ w. holds (start_of r) (end_of r) w.key ≡ true) (under_number (at_of h i.seq.0) ws)
+    each : (ws : List (List ℕ × Option Value)) → AllIn key_of (span_of i.request).start (span_of i.request).end ws → Each (λ w. holds (start_of r) (end_of r) w.key ≡ true) (under_number (at_of h i.seq.0) ws)
     each [] all = tt
     each (w ∷ ws) all = (in-range r i w.0 fits all.0, each ws all.1)
 
@@ -114,5 +76,5 @@ pub all-within : (r : Range) (h : Head) (items : List Item) (cells : Cells) → 
 all-within r h [] cells fits = tt
 all-within r h (i ∷ is) cells fits =
     then-within (start_of r) (end_of r) (ask_item h i cells) (ask_all h is)
-    (made-within r h i (ask_request i.request (at_of h i.seq.0) cells) cells (and_first (holds_item r i) _ fits) (each-in (span_of i.request).start (span_of i.request).end (deed_of i.request (at_of h i.seq.0)) (places (reach_of i.request) cells) (places-in (reach_of i.request) cells)))
+    (made-within r h i (ask_request i.request (at_of h i.seq.0) cells) cells (and_first (holds_item r i) _ fits) (stands_at (deed_of i.request (at_of h i.seq.0)) (reach_of i.request) cells))
     (λ out. all-within r h is out (and_second (holds_item r i) _ fits))

@@ -1,7 +1,6 @@
 -- The world stands for its store at first, and where a transaction begins or ends without a commit.
 use Rattle.std.proofs.Common.{◌≡◌, ℕ, ◌<◌, ◌≤◌, true, false, cond, ◌==◌, ◌+◌, List, [], ◌∷◌, ◌++◌, map, Option, Some, None, inl, inr, refl, sym, ap, ◌∙◌, subst, fold, eq-eqb, arith}
 use Rattle.std.specs.List.{list_all}
-use Rattle.std.specs.Option.{option_or}
 use Rattle.ds_base.specs.declared.value.Stamp.{Stamp}
 use Rattle.ds_base.specs.Ordered.{key_eq, at_key, AllOver, Ascends}
 use Rattle.ds_desc.specs.declared.desc.RangeDesc.{RangeDesc}
@@ -12,20 +11,21 @@ use Rattle.ds_cell.specs.Change.{made, settled, settled_by}
 use Rattle.ds_cell.specs.Content.{Content, no_content, AllAbove, Rises, stamp_of}
 use Rattle.ds_cell.specs.Seen.{last_of, held}
 use Rattle.ds_cell.specs.Store.{Store, StoreTxn, Live, Pending, empty_store}
-use Rattle.ds_cell.proofs.LatestFacts.{last_where-cons}
 use Rattle.ds_rule.specs.declared.cluster.ClusterRange.{ClusterRange}
 use Rattle.ds_rule.specs.declared.record.TxnRecord.{TxnRecord}
 use Rattle.ds_rule.specs.Begin.{ranges_of, first_world, is_leased}
 use Rattle.ds_rule.specs.Close.{new_record, with_begin, settle_cells, settle_range, settle_by, commit_of, closed, close_status, status_of_last, said_status}
 use Rattle.ds_rule.specs.Keeping.{IsNewest, Keeps}
 use Rattle.ds_rule.specs.Pieces.{Each}
+use Rattle.ds_rule.specs.Records.{record_number}
 use Rattle.ds_rule.specs.Steady.{has_lease, ids_differ}
-use Rattle.ds_rule.specs.StandsFor.{IsAt, AllUpTo, open_stamp, IsIntentOf, HasRecord, HasRecordOf, IsKnown, status_for, record_for, record_number, StandsFor}
+use Rattle.ds_rule.specs.StandsFor.{IsAt, AllUpTo, open_stamp, IsIntentOf, HasRecord, HasRecordOf, IsKnown, status_for, record_for, StandsFor}
 use Rattle.ds_rule.specs.World.{World, Range, end_of, contents, cell_of, Inside, Tiles}
 use Rattle.ds_world.proofs.First.{first-keeps}
 use Rattle.ds_world.proofs.Stretches.{keeps-same}
 use Rattle.ds_law.proofs.Recorded.{known-last}
 use Rattle.ds_rule.proofs.Lasts.{none-last}
+use Rattle.ds_world.proofs.Newest.{last-append}
 use Rattle.ds_law.proofs.Standing.{rises-last, above-with_last, up-to-last}
 
 -- at first nothing is held
@@ -51,10 +51,6 @@ first-stands rs t leased = record {
 }
 
 -- a new transaction's record is the last, and above all
-
-last-more : {X : Type 0} (xs : List X) (x : X) → last_of (xs ++ x ∷ []) ≡ Some x
-last-more [] x = refl
-last-more (y ∷ ys) x = last_where-cons (λ _. true) y (ys ++ x ∷ []) ∙ ap (λ o. option_or o (Some y)) (last-more ys x)
 
 above-one : (n : ℕ) (ts : List TxnRecord) (x : TxnRecord) → AllAbove record_number n ts → n < record_number x → AllAbove record_number n (ts ++ x ∷ [])
 above-one n [] x all h = (h, tt)
@@ -86,7 +82,7 @@ at-any s n c d none at = record {
 begin-recorded : (t : StoreTxn) (rs : List TxnRecord) → t.fate ≡ Pending → t.mode ≡ Live → HasRecord t.mode t (rs ++ new_record t.asker ∷ [])
 begin-recorded t rs pending live =
     subst (λ m. HasRecord m t (rs ++ new_record t.asker ∷ [])) (sym live)
-    (last-more rs (new_record t.asker) ∙ ap (λ f. Some (record_for (record t { fate = f }))) (sym pending))
+    (last-append rs (new_record t.asker) ∙ ap (λ f. Some (record_for (record t { fate = f }))) (sym pending))
 
 pub begin-stands : (w : World) (p : Store) (t : StoreTxn) → p.txn ≡ None → t.fate ≡ Pending → t.mode ≡ Live → t.asker.number ≡ p.begun + 1 → StandsFor w p → StandsFor (with_begin t.asker w) (record p { txn = Some t; begun = p.begun + 1 })
 begin-stands w p t none pending live next st =

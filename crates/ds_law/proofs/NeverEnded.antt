@@ -22,7 +22,8 @@ use Rattle.ds_rule.specs.Law.{IsQuiet}
 use Rattle.ds_rule.specs.Path.{Path, IsOf}
 use Rattle.ds_rule.specs.Pieces.{Each, PieceOf, IsCut}
 use Rattle.ds_rule.specs.Plain.{is_pending}
-use Rattle.ds_rule.specs.StandsFor.{HasRecordOf, IsWho, Knows, Ready, record_for, record_number}
+use Rattle.ds_rule.specs.Records.{record_number}
+use Rattle.ds_rule.specs.StandsFor.{HasRecordOf, IsWho, Knows, Ready, record_for}
 use Rattle.ds_rule.specs.World.{World, Range, has_id}
 use Rattle.ds_rule.proofs.Passing.{told}
 use Rattle.ds_law.proofs.Failing.{ByItem, ByRecord, Why, none-named, runs-cut, status_of, why}

@@ -14,7 +14,8 @@ use Rattle.ds_rule.specs.Asking.{txn_number}
 use Rattle.ds_rule.specs.declared.record.RecordStatus.TheVariants as Status
 use Rattle.ds_rule.specs.Deliver.{is_rollback, status_stops, stops_as}
 use Rattle.ds_rule.specs.Plain.{is_pending}
-use Rattle.ds_rule.specs.StandsFor.{HasRecord, HasRecordOf, IsKnown, IsWho, Knows, record_for, record_number, status_for}
+use Rattle.ds_rule.specs.Records.{record_number}
+use Rattle.ds_rule.specs.StandsFor.{HasRecord, HasRecordOf, IsKnown, IsWho, Knows, OfOpen, record_for, status_for}
 use Rattle.ds_rule.proofs.Lasts.{last-cases}
 
 above-last : (n : ℕ) (ts : List TxnRecord) (x : TxnRecord) → AllAbove record_number n ts → last_of ts ≡ Some x → n < record_number x
@@ -37,9 +38,7 @@ find-last (t ∷ ts) x r h = elim (last-cases t ts x h) [
 
 -- the transaction, if there is one, is pending
 abbrev pub Pends : Option TxnNo → Option StoreTxn → Type 0
-Pends None o = Unit {0}
-Pends (Some n) None = ⊥
-Pends (Some n) (Some t) = is_pending t.fate ≡ true
+Pends n o = OfOpen (λ n t. is_pending t.fate ≡ true) n o
 
 pub known-last : (m : Mode) (t : StoreTxn) (rs : List TxnRecord) → IsKnown m → HasRecord m t rs → last_of rs ≡ Some (record_for t)
 known-last Live t rs k h = h

@@ -18,9 +18,8 @@ use Rattle.ds_cell.specs.Store.{WriteAt}
 use Rattle.ds_rule.specs.declared.record.TxnRecord.{TxnRecord}
 use Rattle.ds_rule.specs.Asking.{Made, Gives, Fails, and_before, and_then, ask_all, ask_item, at_of, txn_of}
 use Rattle.ds_rule.specs.Pieces.{Each}
-use Rattle.ds_rule.specs.Records.{record_of}
+use Rattle.ds_rule.specs.Records.{record_of, record_number}
 use Rattle.ds_rule.specs.Serve.{and_left, decided, resolved_for, resolves, serve, settle_as, settle_in, settle_one}
-use Rattle.ds_rule.specs.StandsFor.{record_number}
 use Rattle.ds_law.proofs.Failing.{none-named}
 use Rattle.ds_law.proofs.Kept.{Keeps, made-keeps}
 use Rattle.ds_law.proofs.Lifetime.{settled-none}

@@ -4,6 +4,7 @@ use Rattle.std.specs.List.{find}
 use Rattle.std.specs.Option.{option_or, option_map}
 use Rattle.ds_base.specs.Order.{key_lt, bound}
 use Rattle.ds_base.specs.Ordered.{key_eq}
+use Rattle.ds_base.proofs.SmallFacts.{and_second}
 use Rattle.ds_cell.specs.declared.entry.Version.{Version}
 use Rattle.ds_cell.specs.declared.entry.Written.{Written}
 use Rattle.ds_cell.specs.Content.{Content, AllAbove, Rises, stamp_of}
@@ -15,10 +16,11 @@ use Rattle.ds_cell.proofs.LatestFacts.{last_where-cons}
 use Rattle.ds_rule.specs.declared.event.Event.{Event}
 use Rattle.ds_rule.specs.declared.record.TxnRecord.{TxnRecord}
 use Rattle.ds_rule.specs.Keeping.{Keeps}
-use Rattle.ds_rule.specs.Moves.{IsMove, counted, moved, arrived, arrived_as, is_copy, with_last, with_last_after, aborted}
+use Rattle.ds_rule.specs.Moves.{IsMove, counted, moved, arrived, arrived_as, is_copy}
 use Rattle.ds_rule.specs.Plain.{after_event, abort_txn, aborted_by}
 use Rattle.ds_rule.specs.Shifts.{foreign_at, lease_to, merge_at, move_to, split_at, stale_by}
-use Rattle.ds_rule.specs.StandsFor.{IsAt, AllUpTo, open_stamp, IsIntentOf, HasRecord, HasRecordOf, record_for, record_number, StandsFor}
+use Rattle.ds_rule.specs.Records.{aborted, record_number, with_last, with_last_after}
+use Rattle.ds_rule.specs.StandsFor.{IsAt, AllUpTo, open_stamp, IsIntentOf, HasRecord, HasRecordOf, record_for, StandsFor}
 use Rattle.ds_rule.specs.World.{World, contents, cell_of}
 use Rattle.ds_rule.proofs.Lasts.{none-last, some-last}
 use Rattle.ds_rule.proofs.Puts.{put-at}
@@ -227,7 +229,7 @@ arrive-leaves w c keeps none = subst (λ v. Leaves w (counted v)) (none-arrives 
 
 -- every move of the world is one of the store
 pub stands-moved : (w : World) (p : Store) (e : Event) (floor : ℕ) → IsMove floor e → open_stamp p.txn ≤ floor → StandsFor w p → StandsFor (moved w e) (after_event e p)
-stands-moved w p (Event.Write k s v) floor above low st = stands-write w p k (record { stamp = s; value = v }) above.1 (let h : floor < s.0 = above.0 in omega (arith, low, h)) st
+stands-moved w p (Event.Write k s v) floor above low st = stands-write w p k (record { stamp = s; value = v }) (and_second _ _ above.1) (let h : floor < s.0 = above.0 in omega (arith, low, h)) st
 stands-moved w p Event.Abort floor above low st = stands-abort w p st
 stands-moved w p (Event.Split k) floor above low st = stands-left w (moved w (Event.Split k)) p (shift-leaves w (split_at k w) (split_keeps k w st.keeps) (split_holds k w st.keeps) refl refl) st
 stands-moved w p (Event.Merge k) floor above low st = stands-left w (moved w (Event.Merge k)) p (shift-leaves w (merge_at k w) (merge_keeps k w st.keeps) (merge_holds k w st.keeps) refl refl) st

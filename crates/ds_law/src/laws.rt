@@ -3,8 +3,9 @@ ghost use Rattle.ds_law.specs.Laws.{MoveLaw};
 ghost use Rattle.ds_rule.specs.Law.{ReadLaw, WholeLaw};
 
 /// Does nothing: its clause is the law of moves. Whatever a wire may make by itself above the open
-/// transaction's stamp, a split, a merge, a lease, a move, an old descriptor, an abort, a late copy or a
-/// write of another client, the world stands for its store afterwards as before.
+/// transaction's stamp, a split, a merge, a lease, a move, an old descriptor, an abort or a write of
+/// another client, the world stands for its store afterwards as before. No copy is under way where a
+/// world stands for a store, so that the arrival of one does nothing here.
 pub fn move_law()
     ensures { MoveLaw }
 {}

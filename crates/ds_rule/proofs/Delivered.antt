@@ -20,7 +20,7 @@ use Rattle.ds_kind.specs.declared.batch.Item.{Item}
 use Rattle.ds_kind.specs.declared.batch.Piece.{Piece}
 use Rattle.ds_kind.specs.declared.reply.Reply.{Reply}
 use Rattle.ds_cell.specs.declared.entry.At.{At}
-use Rattle.ds_cell.specs.Ask.{Cell, Cells, key_of, Asked, Failed, Gave}
+use Rattle.ds_cell.specs.Ask.{AllIn, Cell, Cells, key_of, Asked, Failed, Gave}
 use Rattle.ds_cell.specs.Change.{wrote, settled}
 use Rattle.ds_cell.specs.Requests.{ask_request}
 use Rattle.ds_cell.specs.Store.{WriteAt, put_cell, write_all, under_number, settle_all}
@@ -28,7 +28,7 @@ use Rattle.ds_rule.specs.Asking.{Made, Gives, Fails, at_of, made_by, and_before,
 use Rattle.ds_rule.specs.World.{World, Range, end_of, Fits, Inside, Tiles, has_id, holds_key, replaced}
 use Rattle.ds_rule.specs.Deliver.{holds_item, served, stops, with_cells}
 use Rattle.ds_rule.proofs.Tiling.{fits-put}
-use Rattle.ds_rule.proofs.Writes.{Puts, AllIn, puts_in_span, held_key}
+use Rattle.ds_rule.proofs.Writes.{Puts, puts_in_span, held_key}
 
 -- the range with these contents
 abbrev pub holding : Range → Cells → Range
@@ -39,12 +39,12 @@ abbrev pub AllHeld : Range → List WriteAt → Type 0
 AllHeld r [] = Unit {0}
 AllHeld r (w ∷ ws) = (holds_key w.key r ≡ true) × AllHeld r ws
 
-fits_writes : (s : List ℕ) (r : Range) (i : Item) (at : At) (ws : Puts) (cells : Cells) → holds_item r i ≡ true → AllIn (span_of i.request).start (span_of i.request).end ws → Fits s (holding r cells) → Fits s (holding r (write_all at ws cells))
+fits_writes : (s : List ℕ) (r : Range) (i : Item) (at : At) (ws : Puts) (cells : Cells) → holds_item r i ≡ true → AllIn key_of (span_of i.request).start (span_of i.request).end ws → Fits s (holding r cells) → Fits s (holding r (write_all at ws cells))
 fits_writes s r i at [] cells h all t = t
 fits_writes s r i at (w ∷ ws) cells h all t =
     fits_writes s r i at ws (put_cell w.0 (wrote at w.1) cells) h all.1 (fits-put s (holding r cells) w.0 (wrote at w.1) (held_key r i w.0 h all.0) t)
 
-held_writes : (r : Range) (i : Item) (at : At) (ws : Puts) → holds_item r i ≡ true → AllIn (span_of i.request).start (span_of i.request).end ws → AllHeld r (under_number at ws)
+held_writes : (r : Range) (i : Item) (at : At) (ws : Puts) → holds_item r i ≡ true → AllIn key_of (span_of i.request).start (span_of i.request).end ws → AllHeld r (under_number at ws)
 held_writes r i at [] h all = tt
 held_writes r i at (w ∷ ws) h all = (held_key r i w.0 h all.0, held_writes r i at ws h all.1)
 

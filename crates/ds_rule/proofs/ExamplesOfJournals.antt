@@ -1,5 +1,5 @@
 -- Worked examples of the definitions, some that hold and some that must not: journals, blocks, and what a call adds.
-use Rattle.std.proofs.Common.{◌≡◌, ℕ, ◌==◌, ◌<◌, List, [], ◌∷◌, length, map, None, inl, inr, refl, ap, ◌∙◌, lit<, arith, Bool, true, false, Some}
+use Rattle.std.proofs.Common.{◌≡◌, ℕ, zero, suc, ◌==◌, ◌<◌, List, [], ◌∷◌, length, map, Option, None, inl, inr, refl, ap, ◌∙◌, lit<, arith, Bool, true, false, Some}
 use Rattle.ds_base.specs.Order.{bound}
 use Rattle.ds_base.specs.Ordered.{key_eq}
 use Rattle.ds_base.specs.declared.value.Dir.{Dir}
@@ -109,6 +109,20 @@ none_stays_of_a_piece_without_one = (refl, refl)
 none_stays_of_what_is_refused : DoesSo BothWays (3 ∷ []) world (Send 2 put_5 (Refused NotFound)) world
 none_stays_of_what_is_refused = (refl, refl)
 
+-- node 2 has no replica and refuses the piece, which nobody sees
+a_lost_reply_leaves_its_copy_where_the_piece_was_refused : DoesSo ReplyLost (3 ∷ []) world (Send 2 put_5 Lost) (with_late (late 3 2))
+a_lost_reply_leaves_its_copy_where_the_piece_was_refused = (refl, refl)
+
+it_doesnt_leave_none : DoesSo ReplyLost (3 ∷ []) world (Send 2 put_5 Lost) world → ⊥
+it_doesnt_leave_none h = differs h.1 (λ w. length w.copies == 0) refl refl
+
+a_wire_without_copies_leaves_none : Does world (Send 2 put_5 Lost) (with_late (late 3 2)) → ⊥
+a_wire_without_copies_leaves_none h = by (told world (Send 2 put_5 Lost) (with_late (late 3 2)) h)
+  where
+    by : Told world (Send 2 put_5 Lost) (with_late (late 3 2)) → ⊥
+    by (inl same) = differs same (λ w. length w.copies == 1) refl refl
+    by (inr made) = differs made (λ w. length w.copies == 1) refl refl
+
 what_comes_back_is_not_lost : (w : World) → DoesSo BothWays [] world (Send 1 put_piece Lost) w → ⊥
 what_comes_back_is_not_lost w h = differs h.0 is_lost refl refl
   where
@@ -139,8 +153,8 @@ a_move_comes_after_one_step = refl
 
 -- ---- pieces of a batch
 
-pub a_get_is_a_piece_of_its_batch : (h : Head) → PieceOf (asked_by h (get key_a ∷ [])) h.left (piece h 1 (get key_a ∷ []))
-a_get_is_a_piece_of_its_batch h = record {
+pub a_get_is_a_piece_of_its_batch : (h : Head) (left : Option ℕ) → PieceOf (asked_by h (get key_a ∷ [])) left (piece (record h { left = left }) 1 (get key_a ∷ []))
+a_get_is_a_piece_of_its_batch h left = record {
   head = refl;
   some = lit< tt;
   rising = (tt, tt);
@@ -184,24 +198,24 @@ at_step n e = record { at = n; event = e }
 before_step_2 : List Timed
 before_step_2 = at_step 2 write_5 ∷ []
 
-a_block_plays_its_steps : BlockPlays (asked_at 20 (get key_a ∷ [])) 1 [] world (look ∷ get_gave 7 ∷ []) world
-a_block_plays_its_steps = (tt, (refl, refl), (a_get_is_a_piece_of_its_batch (alone_at 20), refl, refl))
+a_block_plays_its_steps : BlockPlays (asked_at 20 (get key_a ∷ [])) [] 1 [] world (look ∷ get_gave 7 ∷ []) world
+a_block_plays_its_steps = (refl, (refl, refl), (a_get_is_a_piece_of_its_batch (alone_at 20) None, refl, refl))
 
-a_made_up_reply_doesnt_play : (v : World) → BlockPlays (asked_at 20 (get key_a ∷ [])) 1 [] world (get_gave 8 ∷ []) v → ⊥
+a_made_up_reply_doesnt_play : (v : World) → BlockPlays (asked_at 20 (get key_a ∷ [])) [] 1 [] world (get_gave 8 ∷ []) v → ⊥
 a_made_up_reply_doesnt_play v h = differs h.1 (λ a. number_in a == 8) refl refl
 
-a_step_of_another_batch_doesnt_play : (v : World) → BlockPlays (asked_at 10 (get key_a ∷ [])) 1 [] world (get_gave 7 ∷ []) v → ⊥
+a_step_of_another_batch_doesnt_play : (v : World) → BlockPlays (asked_at 10 (get key_a ∷ [])) [] 1 [] world (get_gave 7 ∷ []) v → ⊥
 a_step_of_another_batch_doesnt_play v h = another_stamp_isnt_the_batchs h.0
 
-an_event_before_step_2_is_seen_by_it : BlockPlays (asked_at 20 (get key_a ∷ [])) 1 before_step_2 world (look ∷ get_gave 5 ∷ []) (moved world write_5)
+an_event_before_step_2_is_seen_by_it : BlockPlays (asked_at 20 (get key_a ∷ [])) [] 1 before_step_2 world (look ∷ get_gave 5 ∷ []) (moved world write_5)
 unfolding before_step_2 at_step
-an_event_before_step_2_is_seen_by_it = (tt, (refl, refl), (a_get_is_a_piece_of_its_batch (alone_at 20), refl, refl))
+an_event_before_step_2_is_seen_by_it = (refl, (refl, refl), (a_get_is_a_piece_of_its_batch (alone_at 20) None, refl, refl))
 
-it_isnt_made_after_step_2 : (v : World) → BlockPlays (asked_at 20 (get key_a ∷ [])) 1 before_step_2 world (look ∷ get_gave 7 ∷ []) v → ⊥
+it_isnt_made_after_step_2 : (v : World) → BlockPlays (asked_at 20 (get key_a ∷ [])) [] 1 before_step_2 world (look ∷ get_gave 7 ∷ []) v → ⊥
 unfolding before_step_2 at_step
 it_isnt_made_after_step_2 v h = differs h.2.1 (λ a. number_in a == 7) refl refl
 
-it_isnt_made_before_step_1 : (v : World) → BlockPlays (asked_at 20 (get key_a ∷ [])) 1 before_step_2 world (get_gave 5 ∷ []) v → ⊥
+it_isnt_made_before_step_1 : (v : World) → BlockPlays (asked_at 20 (get key_a ∷ [])) [] 1 before_step_2 world (get_gave 5 ∷ []) v → ⊥
 unfolding before_step_2 at_step
 it_isnt_made_before_step_1 v h = differs h.1 (λ a. number_in a == 5) refl refl
 
@@ -213,19 +227,19 @@ its_copies_stay_and_those_that_name_the_step : copies_at 1 (at_step 1 (LoseReply
 unfolding at_step
 its_copies_stay_and_those_that_name_the_step = refl
 
-a_step_is_lost_where_the_block_says_so : BlockPlays (asked_at 20 (get key_a ∷ [])) 1 (at_step 2 (LoseReply None) ∷ []) world (get_gave 7 ∷ Send 1 get_piece Lost ∷ []) world
+a_step_is_lost_where_the_block_says_so : BlockPlays (asked_at 20 (get key_a ∷ [])) [] 1 (at_step 2 (LoseReply None) ∷ []) world (get_gave 7 ∷ Send 1 get_piece Lost ∷ []) world
 unfolding at_step
-a_step_is_lost_where_the_block_says_so = (a_get_is_a_piece_of_its_batch (alone_at 20), refl, (a_get_is_a_piece_of_its_batch (alone_at 20), refl, refl))
+a_step_is_lost_where_the_block_says_so = (a_get_is_a_piece_of_its_batch (alone_at 20) None, refl, (a_get_is_a_piece_of_its_batch (alone_at 20) None, refl, refl))
 
-no_other_step_is_lost : (v : World) → BlockPlays (asked_at 20 (get key_a ∷ [])) 1 (at_step 2 (LoseReply None) ∷ []) world (Send 1 get_piece Lost ∷ []) v → ⊥
+no_other_step_is_lost : (v : World) → BlockPlays (asked_at 20 (get key_a ∷ [])) [] 1 (at_step 2 (LoseReply None) ∷ []) world (Send 1 get_piece Lost ∷ []) v → ⊥
 unfolding at_step
 no_other_step_is_lost v h = differs h.1 (λ a. number_in a == 0) refl refl
 
-events_after_the_last_step_are_made_at_the_end : BlockPlays (asked_at 20 (get key_a ∷ [])) 1 (at_step 9 write_5 ∷ []) world [] (moved world write_5)
+events_after_the_last_step_are_made_at_the_end : BlockPlays (asked_at 20 (get key_a ∷ [])) [] 1 (at_step 9 write_5 ∷ []) world [] (moved world write_5)
 unfolding at_step
 events_after_the_last_step_are_made_at_the_end = refl
 
-none_of_them_is_left_out : BlockPlays (asked_at 20 (get key_a ∷ [])) 1 (at_step 9 write_5 ∷ []) world [] world → ⊥
+none_of_them_is_left_out : BlockPlays (asked_at 20 (get key_a ∷ [])) [] 1 (at_step 9 write_5 ∷ []) world [] world → ⊥
 unfolding at_step
 none_of_them_is_left_out h = differs h (λ w. w.count == 0) refl refl
 
@@ -248,7 +262,7 @@ a_call_adds_its_step = record {
   loses = λ h. absurd h;
 }
 
-a_block_looks_up_where_some_key_lies_ahead : (v : World) → BlockPlays (asked_at 20 (get key_a ∷ [])) 1 [] world (looked_at bound Forward ∷ []) v → ⊥
+a_block_looks_up_where_some_key_lies_ahead : (v : World) → BlockPlays (asked_at 20 (get key_a ∷ [])) [] 1 [] world (looked_at bound Forward ∷ []) v → ⊥
 a_block_looks_up_where_some_key_lies_ahead v h = never h.1.1
 
 never_rose : Rose 0 0 → ⊥
@@ -279,3 +293,16 @@ none_comes_at_the_floor h = let low : 10 < 10 = h.0 in omega (arith, low)
 
 none_comes_at_the_bound : IsMove 10 (wrote bound 11 5) → ⊥
 none_comes_at_the_bound h = never h.1
+
+-- a key of as many bytes
+long : ℕ → List ℕ
+long zero = []
+long (suc n) = 97 ∷ long n
+
+a_write_leaves_room_for_one_more_byte : IsMove 10 (wrote (long 64) 11 5)
+unfolding long
+a_write_leaves_room_for_one_more_byte = (lit< tt, refl)
+
+none_comes_where_there_is_no_room : IsMove 10 (wrote (long 65) 11 5) → ⊥
+unfolding long
+none_comes_where_there_is_no_room h = never h.1

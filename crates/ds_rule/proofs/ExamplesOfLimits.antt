@@ -1,28 +1,25 @@
 -- Worked examples of requests under a limit, of what they resolve, and of ends, some that hold and some that must not.
-use Rattle.std.proofs.Common.{◌≡◌, ℕ, suc, ◌==◌, Bool, true, false, List, [], ◌∷◌, length, Option, Some, None, pos, refl, not}
+use Rattle.std.proofs.Common.{◌≡◌, ℕ, suc, ◌==◌, Bool, true, false, List, [], ◌∷◌, length, Option, Some, None, pos, refl}
 use Rattle.std.specs.Option.{is_some}
 use Rattle.ds_base.specs.Order.{Extent, after}
 use Rattle.ds_base.specs.Ordered.{key_eq}
 use Rattle.ds_base.specs.declared.value.Value.TheVariants.{Int}
-use Rattle.ds_kind.specs.declared.batch.Head.{Head}
 use Rattle.ds_kind.specs.declared.batch.Item.{Item}
 use Rattle.ds_kind.specs.declared.reply.Body.{Body}
-use Rattle.ds_kind.specs.declared.reply.Failure.TheVariants as Failure
 use Rattle.ds_kind.specs.declared.reply.Reply.{Reply}
 use Rattle.ds_kind.specs.declared.reply.Row.{Row}
 use Rattle.ds_kind.specs.declared.reply.TxnStatus.TheVariants as Says
 use Rattle.ds_kind.specs.declared.request.Request.{Request}
 use Rattle.ds_kind.specs.declared.request.Request.TheVariants.{DeleteRange, EndTxn, ResolveIntentRange}
-use Rattle.ds_cell.specs.declared.entry.Written.{Written}
 use Rattle.ds_cell.specs.Ask.{Cells}
-use Rattle.ds_cell.specs.Content.{Content, no_content}
+use Rattle.ds_cell.specs.Content.{no_content}
 use Rattle.ds_rule.specs.declared.record.RecordStatus.{RecordStatus}
 use Rattle.ds_rule.specs.declared.record.RecordStatus.TheVariants as Status
 use Rattle.ds_rule.specs.declared.record.TxnRecord.{TxnRecord}
 use Rattle.ds_rule.specs.Asking.{Made, Gives, Fails}
 use Rattle.ds_rule.specs.Endings.{all_ended}
 use Rattle.ds_rule.specs.Serve.{serve}
-use Rattle.ds_rule.proofs.Examples.{key_a, key_b, key_m, key_z, version, write, holding, get, put, scan, scan_back, alone_at, by_txn, differs, txn_record}
+use Rattle.ds_rule.proofs.Examples.{key_a, key_b, key_m, key_z, version, write, holding, get, scan, scan_back, alone_at, by_txn, differs, txn_record}
 
 -- ---- what is asked of three rows
 

@@ -1,5 +1,6 @@
 -- Worked examples of what events do to a world, some that hold and some that must not, and of what every world keeps.
 use Rattle.std.proofs.Common.{◌≡◌, ℕ, Bool, true, false, cond, ◌&&◌, ◌==◌, List, [], ◌∷◌, length, Option, Some, None, refl, sym, ap, ◌∙◌}
+use Rattle.std.proofs.Math.Bool.{and-false}
 use Rattle.ds_base.specs.Order.{bound, key_le, key_lt}
 use Rattle.ds_base.specs.declared.value.Dir.TheVariants.{Forward}
 use Rattle.ds_base.proofs.OrderedFacts.{not_le_of_lt, not_lt_of_le}
@@ -80,10 +81,6 @@ it_loses_nothing_beside_its_steps h = h
 abbrev pub both_descs : List RangeDesc
 both_descs = low.info.desc ∷ high.info.desc ∷ []
 
-no_more : (t : Bool) → (t && false) ≡ false
-no_more true = refl
-no_more false = refl
-
 low_is_newest : IsNewest both_descs low
 low_is_newest k h =
     ap (λ t. last_of (cond t (low.info.desc ∷ containing k (high.info.desc ∷ [])) (containing k (high.info.desc ∷ [])))) h
@@ -91,7 +88,7 @@ low_is_newest k h =
 
 high_is_newest : IsNewest both_descs high
 high_is_newest k h =
-    ap (λ t. last_of (cond t (low.info.desc ∷ containing k (high.info.desc ∷ [])) (containing k (high.info.desc ∷ [])))) (ap (λ t. key_le [] k && t) (not_lt_of_le key_g k (and_first _ _ h)) ∙ no_more (key_le [] k))
+    ap (λ t. last_of (cond t (low.info.desc ∷ containing k (high.info.desc ∷ [])) (containing k (high.info.desc ∷ [])))) (ap (λ t. key_le [] k && t) (not_lt_of_le key_g k (and_first _ _ h)) ∙ and-false (key_le [] k))
     ∙ ap (λ t. last_of (cond t (high.info.desc ∷ []) [])) h
 
 one_of_two : (d e : RangeDesc) (a b : Bool) → (a && b) ≡ false → Newer (cond a (d ∷ cond b (e ∷ []) []) (cond b (e ∷ []) []))
@@ -102,8 +99,8 @@ one_of_two d e false false h = tt
 
 not_in_both : (k : List ℕ) → (contains Forward k low.info.desc.span && contains Forward k high.info.desc.span) ≡ false
 not_in_both k = elim (key_lt k key_g) as (λ b. key_lt k key_g ≡ b → ((key_le [] k && b) && (key_le key_g k && key_lt k bound)) ≡ false) [
-  | true ↦ λ h. ap (λ t. (key_le [] k && true) && (t && key_lt k bound)) (not_le_of_lt k key_g h) ∙ no_more (key_le [] k && true)
-  | false ↦ λ h. ap (λ t. t && (key_le key_g k && key_lt k bound)) (no_more (key_le [] k))
+  | true ↦ λ h. ap (λ t. (key_le [] k && true) && (t && key_lt k bound)) (not_le_of_lt k key_g h) ∙ and-false (key_le [] k && true)
+  | false ↦ λ h. ap (λ t. t && (key_le key_g k && key_lt k bound)) (and-false (key_le [] k))
 ] refl
 
 pub two_ranges_are_kept : Keeps world

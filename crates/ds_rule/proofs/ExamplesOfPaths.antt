@@ -34,7 +34,7 @@ a_lookup_is_a_step_of_any_batch = tt
 
 a_piece_of_the_batch_is_a_step_of_it : IsStepOf asked (get_gave 7)
 unfolding asked
-a_piece_of_the_batch_is_a_step_of_it = a_get_is_a_piece_of_its_batch (alone_at 20)
+a_piece_of_the_batch_is_a_step_of_it = a_get_is_a_piece_of_its_batch (alone_at 20) None
 
 a_piece_at_another_stamp_is_not : IsStepOf (asked_at 10 (get key_a ∷ [])) (get_gave 7) → ⊥
 a_piece_at_another_stamp_is_not h = differs h.head (λ head. head.at.0 == 20) refl refl
@@ -108,7 +108,7 @@ unfolding asked after both gave_7
 a_lookup_and_a_get_are_a_path = record {
   added = both;
   high = (tt, (tt, tt));
-  of = (tt, (a_get_is_a_piece_of_its_batch (alone_at 20), tt));
+  of = (tt, (a_get_is_a_piece_of_its_batch (alone_at 20) None, tt));
   routed = a_send_after_its_lookup_is_routed;
   losses = ((λ h. absurd h), ((λ h. absurd h), tt));
   grown = refl;

@@ -11,8 +11,7 @@ use Rattle.ds_cell.specs.Content.{AllAbove, Rises}
 use Rattle.ds_cell.proofs.Ranks.{rises-up}
 use Rattle.ds_rule.specs.declared.record.RecordStatus.{RecordStatus}
 use Rattle.ds_rule.specs.declared.record.TxnRecord.{TxnRecord}
-use Rattle.ds_rule.specs.Moves.{with_last, with_last_after}
-use Rattle.ds_rule.specs.Records.{record_number, with_record, with_status, RisesIf, IsFirstFrom}
+use Rattle.ds_rule.specs.Records.{record_number, with_last, with_last_after, with_record, with_status, RisesIf, IsFirstFrom}
 
 -- ---- the first that passes, by its place
 

@@ -13,7 +13,7 @@ use Rattle.ds_kind.specs.declared.batch.Item.{Item}
 use Rattle.ds_kind.specs.declared.request.Request.{Request}
 use Rattle.ds_kind.specs.declared.request.Request.TheVariants.{Get, Scan, ReverseScan, Put, ConditionalPut, InitPut, Increment, Delete, DeleteRange, EndTxn, QueryIntent, ResolveIntent, ResolveIntentRange, AdminSplit, AdminTransferLease}
 use Rattle.ds_cell.specs.declared.entry.At.{At}
-use Rattle.ds_cell.specs.Ask.{Cell, Cells, key_of, places}
+use Rattle.ds_cell.specs.Ask.{AllIn, Cell, Cells, key_of, places}
 use Rattle.ds_cell.specs.LawProofs.{own_span}
 use Rattle.ds_rule.specs.Asking.{Made, ask_item, at_of}
 use Rattle.ds_rule.specs.Deliver.{holds_item}
@@ -22,7 +22,7 @@ use Rattle.ds_rule.specs.Pieces.{Each, IsOneOf}
 use Rattle.ds_rule.specs.World.{Range, start_of, end_of}
 use Rattle.ds_rule.proofs.Eachs.{each-of, of-get, of-reverse}
 use Rattle.ds_rule.proofs.Routes.{le_itself}
-use Rattle.ds_rule.proofs.Writes.{AllIn, in_between}
+use Rattle.ds_rule.proofs.Writes.{in_between}
 
 -- the one span lies in the other
 abbrev pub LiesIn : Extent → Extent → Type 0
@@ -59,7 +59,7 @@ part-lies true e k h = (and_first _ _ h, le_itself e.end)
 abbrev IsIn : Extent → List ℕ → Type 0
 IsIn e k = holds e.start e.end k ≡ true
 
-filtered-in : (e : Extent) (f : Cell → Bool) (ps : Cells) → AllIn e.start e.end ps → Each (IsIn e) (map key_of (filter f ps))
+filtered-in : (e : Extent) (f : Cell → Bool) (ps : Cells) → AllIn key_of e.start e.end ps → Each (IsIn e) (map key_of (filter f ps))
 filtered-in e f [] all = tt
 filtered-in e f (p ∷ ps) all =
     elim (f p) as (λ b. Each (IsIn e) (map key_of (cond b (p ∷ filter f ps) (filter f ps)))) [
@@ -67,7 +67,7 @@ filtered-in e f (p ∷ ps) all =
       | false ↦ filtered-in e f ps all.1
     ]
 
-places-in : (x : Reach) (cells : Cells) → AllIn (extent_of x).start (extent_of x).end (places x cells)
+places-in : (x : Reach) (cells : Cells) → AllIn key_of (extent_of x).start (extent_of x).end (places x cells)
 places-in (Point k) cells = (own_span k, tt)
 places-in (Over s e) cells = in_between s e cells
 

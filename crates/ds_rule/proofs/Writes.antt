@@ -15,7 +15,7 @@ use Rattle.ds_cell.specs.declared.verdict.Verdict.TheVariants.{Keep, Put as Writ
 use Rattle.ds_cell.specs.declared.verdict.Bit.{Bit}
 use Rattle.ds_cell.specs.declared.verdict.ActFault.{ActFault}
 use Rattle.ds_cell.specs.Content.{Content}
-use Rattle.ds_cell.specs.Ask.{Cells, key_of, content_at, Asked, Failed, Gave, one_more, ask_each, ask_at}
+use Rattle.ds_cell.specs.Ask.{AllIn, Cells, key_of, content_at, Asked, Failed, Gave, one_more, ask_each, ask_at}
 use Rattle.ds_cell.specs.LawProofs.{own_span}
 use Rattle.ds_cell.specs.Requests.{deed_of, ask_request}
 use Rattle.ds_rule.specs.World.{Range, start_of, end_of, holds_key}
@@ -43,32 +43,27 @@ more_puts P k (Write w b) (Gave bs ws) cs vs kept put h = subst P (gave_puts _ c
 pub no_puts : (P : Puts → Type 0) (cs : List (List ℕ × Bit)) (vs : Puts) → P [] → Gave [] [] ≡ Gave cs vs → P vs
 no_puts P cs vs p h = subst P (gave_puts [] cs [] vs h) p
 
--- all these keys lie in the span
-abbrev pub AllIn : {X : Type 0} → List ℕ → List ℕ → List (List ℕ × X) → Type 0
-AllIn s e [] = Unit {0}
-AllIn s e (p ∷ ps) = (holds s e p.0 ≡ true) × AllIn s e ps
-
-pub in_between : (s e : List ℕ) (cells : Cells) → AllIn s e (between key_of s e cells)
+pub in_between : (s e : List ℕ) (cells : Cells) → AllIn key_of s e (between key_of s e cells)
 in_between s e [] = tt
 in_between s e (p ∷ ps) =
-    elim (holds s e p.0) as (λ t. holds s e p.0 ≡ t → AllIn s e (cond t (p ∷ between key_of s e ps) (between key_of s e ps))) [
+    elim (holds s e p.0) as (λ t. holds s e p.0 ≡ t → AllIn key_of s e (cond t (p ∷ between key_of s e ps) (between key_of s e ps))) [
       | true ↦ λ h. (h, in_between s e ps)
       | false ↦ λ h. in_between s e ps
     ] refl
 
-puts_in : (d : Content → Verdict) (s e : List ℕ) (ps : Cells) (cs : List (List ℕ × Bit)) (vs : Puts) → AllIn s e ps → ask_each d ps ≡ Gave cs vs → AllIn s e vs
-puts_in d s e [] cs vs all h = no_puts (AllIn s e) cs vs tt h
+puts_in : (d : Content → Verdict) (s e : List ℕ) (ps : Cells) (cs : List (List ℕ × Bit)) (vs : Puts) → AllIn key_of s e ps → ask_each d ps ≡ Gave cs vs → AllIn key_of s e vs
+puts_in d s e [] cs vs all h = no_puts (AllIn key_of s e) cs vs tt h
 puts_in d s e (p ∷ ps) cs vs all h =
-    more_puts (AllIn s e) p.0 (d p.1) (ask_each d ps) cs vs
+    more_puts (AllIn key_of s e) p.0 (d p.1) (ask_each d ps) cs vs
     (λ bs ws g. puts_in d s e ps bs ws all.1 g)
     (λ bs ws w b is g. (all.0, puts_in d s e ps bs ws all.1 g)) h
 
-puts_in_reach : (d : Content → Verdict) (x : Reach) (cells : Cells) (cs : List (List ℕ × Bit)) (vs : Puts) → ask_at d x cells ≡ Gave cs vs → AllIn (extent_of x).start (extent_of x).end vs
+puts_in_reach : (d : Content → Verdict) (x : Reach) (cells : Cells) (cs : List (List ℕ × Bit)) (vs : Puts) → ask_at d x cells ≡ Gave cs vs → AllIn key_of (extent_of x).start (extent_of x).end vs
 puts_in_reach d (Point k) cells cs vs h = puts_in d k (after k) ((k, content_at k cells) ∷ []) cs vs (own_span k, tt) h
 puts_in_reach d (Over s e) cells cs vs h = puts_in d s e (between key_of s e cells) cs vs (in_between s e cells) h
 
 -- a request writes in its span alone
-pub puts_in_span : (r : Request) (at : At) (cells : Cells) (cs : List (List ℕ × Bit)) (vs : Puts) → ask_request r at cells ≡ Gave cs vs → AllIn (span_of r).start (span_of r).end vs
+pub puts_in_span : (r : Request) (at : At) (cells : Cells) (cs : List (List ℕ × Bit)) (vs : Puts) → ask_request r at cells ≡ Gave cs vs → AllIn key_of (span_of r).start (span_of r).end vs
 puts_in_span r at cells cs vs h = puts_in_reach (deed_of r at) (reach_of r) cells cs vs h
 
 -- the range holds the keys of an item's span that it holds

@@ -1,9 +1,8 @@
 -- The world that a cluster begins with.
 use Rattle.std.specs.Prelude.{◌≡◌, ℕ, ◌+◌, Bool, true, false, ◌&&◌, ◌==◌, List, [], ◌∷◌, length, map, refl}
-use Rattle.std.specs.List.{list_any}
 use Rattle.ds_base.specs.Order.{key_lt, bound}
 use Rattle.ds_rule.specs.declared.cluster.ClusterRange.{ClusterRange}
-use Rattle.ds_rule.specs.World.{World, Range}
+use Rattle.ds_rule.specs.World.{World, Range, is_replica}
 
 -- each range ends where the next one starts, and the last one at the bound
 abbrev pub next_start : List ClusterRange → List ℕ
@@ -35,7 +34,7 @@ tiles rs = (length (next_start rs) == 0) && rises rs
 
 -- the lease is with a node that has a replica
 abbrev pub is_leased : ClusterRange → Bool
-is_leased r = list_any (λ n. n == r.lease) r.nodes
+is_leased r = is_replica r.lease r.nodes
 
 abbrev pub first_world : List ClusterRange → World
 first_world rs = record {

@@ -5,9 +5,9 @@ use Rattle.ds_rule.specs.declared.event.Event.TheVariants.{LoseRequest, LoseRepl
 use Rattle.ds_rule.specs.declared.event.Timed.{Timed}
 use Rattle.ds_rule.specs.declared.journal.JournalStep.{JournalStep}
 use Rattle.ds_rule.specs.Asking.{Asking}
-use Rattle.ds_rule.specs.Journal.{Passage, BothWays, RequestLost, ReplyLost, IsAnswered, step_world}
+use Rattle.ds_rule.specs.Journal.{Passage, BothWays, RequestLost, ReplyLost, Accepted, accepted_by, IsAnswered, step_world}
 use Rattle.ds_rule.specs.Moves.{moved}
-use Rattle.ds_rule.specs.Path.{IsStepOf}
+use Rattle.ds_rule.specs.Sending.{StepOf, left_of}
 use Rattle.ds_rule.specs.World.{World}
 
 -- the events that are due before step n, and those that come later
@@ -73,10 +73,11 @@ copies_at n ts = lost_copies (loss_at n ts) ++ all_copies n ts
 
 -- ---- a block
 
--- from step n on: before each step the events that are due, then the step, which is of the batch, and is answered as the world
--- answers it where it fares as the events say; and at the block's end the events that are left
-abbrev pub BlockPlays : Asking → ℕ → List Timed → World → List JournalStep → World → Type 0
-BlockPlays q n ts w [] v = v ≡ all_moved w ts
-BlockPlays q n ts w (s ∷ ss) v =
-    IsStepOf q s × IsAnswered (passage_at n ts) (all_moved w (due n ts)) s
-    × BlockPlays q (n + 1) (later n ts) (step_world (passage_at n ts) (copies_at n ts) (all_moved w (due n ts)) s) ss v
+-- from step n on, where so much was accepted before: before each step the events that are due, then the step, which is of the
+-- batch with what is left of its limit, and is answered as the world answers it where it fares as the events say; and at the
+-- block's end the events that are left
+abbrev pub BlockPlays : Asking → List Accepted → ℕ → List Timed → World → List JournalStep → World → Type 0
+BlockPlays q got n ts w [] v = v ≡ all_moved w ts
+BlockPlays q got n ts w (s ∷ ss) v =
+    StepOf q (left_of q got) s × IsAnswered (passage_at n ts) (all_moved w (due n ts)) s
+    × BlockPlays q (got ++ accepted_by s) (n + 1) (later n ts) (step_world (passage_at n ts) (copies_at n ts) (all_moved w (due n ts)) s) ss v

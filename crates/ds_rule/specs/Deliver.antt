@@ -27,7 +27,7 @@ use Rattle.ds_rule.specs.Endings.{ended_of}
 use Rattle.ds_rule.specs.Records.{record_of}
 use Rattle.ds_rule.specs.Serve.{serve}
 use Rattle.ds_rule.specs.Shifts.{lease_to, split_at}
-use Rattle.ds_rule.specs.World.{World, Range, start_of, end_of, has_id, in_order, replaced}
+use Rattle.ds_rule.specs.World.{World, Range, start_of, end_of, has_id, in_order, is_replica, replaced}
 
 -- the range holds the item's span
 abbrev pub holds_item : Range → Item → Bool
@@ -81,7 +81,7 @@ ends (Some f) = Some (Ended f)
 -- the first reason that applies
 abbrev pub stops : World → ℕ → Piece → Range → Option Stop
 stops w node p r =
-    if not (list_any (λ n. n == node) r.info.desc.nodes) then Some (Turned NotFound)
+    if not (is_replica node r.info.desc.nodes) then Some (Turned NotFound)
     else if not (r.info.lease.node == node) then Some (Turned (NotLease r.info.lease))
     else if not (list_all (holds_item r) p.items) then Some (Turned (Mismatch (mismatch_rows w p)))
     else ends (status_stops (record_of (txn_of p.head) w.records) p)

@@ -70,7 +70,8 @@ IsAnswered ReplyLost w (Send n p a) = a ≡ Lost
 abbrev pub DoesSo : Passage → List ℕ → World → JournalStep → World → Type 0
 DoesSo p cs w s v = IsAnswered p w s × (v ≡ step_world p cs w s)
 
--- however it fares; no copy stays yet
+-- however it fares, on a wire that leaves no copy of any step: what a sender's laws speak of. A block's copies stay by
+-- BlockPlays
 abbrev pub Does : World → JournalStep → World → Type 0
 Does w s v = (p : Passage) × DoesSo p [] w s v
 

@@ -16,6 +16,7 @@ pub mod Path
 pub mod Pieces
 pub mod Plain
 pub mod Records
+pub mod Sending
 pub mod Serve
 pub mod Shifts
 pub mod StandsFor

@@ -1,40 +1,20 @@
 -- What an event does to the world.
-use Rattle.std.specs.Prelude.{◌≡◌, ℕ, ◌+◌, ◌<◌, Bool, true, false, List, [], ◌∷◌, ◌==◌, find, Option, Some, None, if◌then◌else◌}
-use Rattle.ds_base.specs.Order.{bound, key_lt}
+use Rattle.std.specs.Prelude.{◌≡◌, ℕ, ◌+◌, ◌<◌, Bool, true, false, ◌==◌, find, Option, Some, None, if◌then◌else◌}
 use Rattle.ds_desc.specs.Replicas.{AreReplicas}
+use Rattle.ds_kind.specs.Asks.{has_room}
 use Rattle.ds_rule.specs.declared.event.Event.{Event}
 use Rattle.ds_rule.specs.declared.event.Event.TheVariants.{Write, Split, Merge, Lease, Move, Stale, Abort, Arrive, LoseRequest, LoseReply, Copy, Restart}
-use Rattle.ds_rule.specs.declared.record.TxnRecord.{TxnRecord}
-use Rattle.ds_rule.specs.declared.record.RecordStatus.{RecordStatus}
-use Rattle.ds_rule.specs.declared.record.RecordStatus.TheVariants as Status
 use Rattle.ds_rule.specs.Deliver.{deliver_world}
+pub use Rattle.ds_rule.specs.Records.{aborted, aborted_status, with_last, with_last_after}
 use Rattle.ds_rule.specs.Shifts.{foreign_at, lease_to, merge_at, move_to, split_at, stale_by}
 use Rattle.ds_rule.specs.World.{World, Late, without_first}
 
 abbrev pub counted : World → World
 counted w = record w { count = w.count + 1 }
 
--- ---- the open transaction's record, which is the last
+-- ---- the open transaction's record
 
-abbrev pub aborted_status : RecordStatus → RecordStatus
-aborted_status Status.Pending = Status.Aborted
-aborted_status Status.Committed = Status.Committed
-aborted_status Status.Aborted = Status.Aborted
-aborted_status (Status.Staging fs) = Status.Aborted
-
-abbrev pub with_last_after : (TxnRecord → TxnRecord) → TxnRecord → List TxnRecord → List TxnRecord
-with_last_after f t [] = f t ∷ []
-with_last_after f t (u ∷ us) = t ∷ with_last_after f u us
-
--- the last of them, changed
-abbrev pub with_last : (TxnRecord → TxnRecord) → List TxnRecord → List TxnRecord
-with_last f [] = []
-with_last f (t ∷ ts) = with_last_after f t ts
-
--- a record that isn't committed becomes aborted
-abbrev pub aborted : TxnRecord → TxnRecord
-aborted t = record t { status = aborted_status t.status }
-
+-- it is the last one, whatever its number; a close ends it so too
 abbrev pub abort_last : World → World
 abort_last w = record w { records = with_last aborted w.records }
 
@@ -71,12 +51,11 @@ effect (LoseReply c) w = w
 effect (Copy c) w = w
 effect (Restart t) w = w
 
--- what names a step is not counted
+-- what names a step is not counted; a restart is counted as every event that is made, though it changes no record yet
 abbrev pub counts : Event → Bool
 counts (LoseRequest c) = false
 counts (LoseReply c) = false
 counts (Copy c) = false
-counts (Restart t) = false
 counts e = true
 
 abbrev pub counted_if : Bool → World → World
@@ -85,10 +64,10 @@ counted_if b w = if b then counted w else w
 abbrev pub moved : World → Event → World
 moved w e = counted_if (counts e) (effect e w)
 
--- what a wire may make by itself: a foreign write at a key, above the floor; a move to nodes that may hold a range; and all
--- else but what names a step
+-- what a wire may make by itself: a foreign write at a key that has room for one more byte, above the floor; a move to nodes
+-- that may hold a range; and all else but what names a step, and a restart
 abbrev pub IsMove : ℕ → Event → Type 0
-IsMove floor (Write k s v) = (floor < s.0) × (key_lt k bound ≡ true)
+IsMove floor (Write k s v) = (floor < s.0) × (has_room k ≡ true)
 IsMove floor (Split k) = Unit {0}
 IsMove floor (Merge k) = Unit {0}
 IsMove floor (Lease k n) = Unit {0}

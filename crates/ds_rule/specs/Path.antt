@@ -19,7 +19,7 @@ abbrev pub IsHigh : ℕ → Happening → Type 0
 IsHigh floor (Moved e) = IsMove floor e
 IsHigh floor (Did s) = Unit {0}
 
--- a send is of a piece of the batch, which has no limit yet
+-- a send is of a piece of the batch with its whole limit: so it is of a batch without a limit alone
 abbrev pub IsStepOf : Asking → JournalStep → Type 0
 IsStepOf q (Look k d l) = Unit {0}
 IsStepOf q (Send n p a) = PieceOf q q.head.left p

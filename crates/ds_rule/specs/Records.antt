@@ -4,6 +4,7 @@ use Rattle.std.specs.List.Sorted.{IsPartitionPoint}
 use Rattle.ds_cell.specs.Content.{Rises}
 use Rattle.ds_rule.specs.declared.record.TxnRecord.{TxnRecord}
 use Rattle.ds_rule.specs.declared.record.RecordStatus.{RecordStatus}
+use Rattle.ds_rule.specs.declared.record.RecordStatus.TheVariants as Status
 
 abbrev pub record_number : TxnRecord → ℕ
 record_number t = t.txn.0
@@ -19,6 +20,29 @@ with_record n f (t ∷ ts) = if t.txn.0 == n then f t ∷ ts else t ∷ with_rec
 
 abbrev pub with_status : RecordStatus → TxnRecord → TxnRecord
 with_status s t = record t { status = s }
+
+-- ---- the open transaction's record, which is the last: an abort and a close end it, whatever its number
+
+abbrev pub aborted_status : RecordStatus → RecordStatus
+aborted_status Status.Pending = Status.Aborted
+aborted_status Status.Committed = Status.Committed
+aborted_status Status.Aborted = Status.Aborted
+aborted_status (Status.Staging fs) = Status.Aborted
+
+abbrev pub with_last_after : (TxnRecord → TxnRecord) → TxnRecord → List TxnRecord → List TxnRecord
+with_last_after f t [] = f t ∷ []
+with_last_after f t (u ∷ us) = t ∷ with_last_after f u us
+
+-- the last of them, changed
+abbrev pub with_last : (TxnRecord → TxnRecord) → List TxnRecord → List TxnRecord
+with_last f [] = []
+with_last f (t ∷ ts) = with_last_after f t ts
+
+-- a record that isn't committed becomes aborted
+abbrev pub aborted : TxnRecord → TxnRecord
+aborted t = record t { status = aborted_status t.status }
+
+-- ---- numbers that rise
 
 -- the numbers rise where that is known
 abbrev pub RisesIf : Bool → List TxnRecord → Type 0

@@ -3,7 +3,6 @@
 -- greatest one.
 use Rattle.std.specs.Prelude.{ℕ, ◌+◌, Bool, not, ◌&&◌, ◌||◌, ◌==◌, List, [], ◌∷◌, ◌++◌, filter, max, Option, Some, None, nat_eq, nat_lt, if◌then◌else◌}
 use Rattle.std.specs.Cmp.Lexicographic.{pointwise}
-use Rattle.std.specs.List.{list_any}
 use Rattle.ds_base.specs.Order.{key_lt, key_le}
 use Rattle.ds_desc.specs.Descs.{back_from, containing, greatest_id}
 use Rattle.ds_desc.specs.declared.desc.Lease.{Lease}
@@ -11,7 +10,8 @@ use Rattle.ds_desc.specs.declared.desc.RangeDesc.{RangeDesc}
 use Rattle.ds_cell.specs.Change.{after_foreign}
 use Rattle.ds_cell.specs.Store.{put_cell}
 use Rattle.ds_cell.specs.declared.entry.Version.{Version}
-use Rattle.ds_rule.specs.World.{World, Range, start_of, end_of, first_or, holds_key, replaced}
+use Rattle.ds_rule.specs.World.{World, Range, start_of, end_of, first_node, holds_key, replaced}
+pub use Rattle.ds_rule.specs.World.{is_replica}
 
 -- one more is still a number of 32 bits
 abbrev pub has_next : ℕ → Bool
@@ -92,9 +92,6 @@ merge_at k w = shifted merge_in k w
 
 -- ---- a lease
 
-abbrev pub is_replica : ℕ → List ℕ → Bool
-is_replica n ns = list_any (λ m. m == n) ns
-
 abbrev pub with_lease : ℕ → Range → Range
 with_lease n r = record r { info = record r.info { lease = record { node = n; number = r.info.lease.number + 1 } } }
 
@@ -112,7 +109,7 @@ lease_to k n w = shifted (lease_in n) k w
 
 -- the lease stays with its holder where that is among the nodes; else the first of them has it
 abbrev pub lease_among : List ℕ → Lease → Lease
-lease_among ns l = if is_replica l.node ns then l else record { node = first_or 0 ns; number = l.number + 1 }
+lease_among ns l = if is_replica l.node ns then l else record { node = first_node ns; number = l.number + 1 }
 
 abbrev pub with_nodes : List ℕ → Range → Range
 with_nodes ns r = record r {

@@ -14,8 +14,9 @@ use Rattle.ds_rule.specs.declared.record.RecordStatus.TheVariants as Status
 use Rattle.ds_rule.specs.Asking.{Asking, asking}
 use Rattle.ds_rule.specs.Clauses.{Stands}
 use Rattle.ds_rule.specs.Journal.{Happening, Moved, Did}
-use Rattle.ds_rule.specs.Plain.{asker_in, after_event}
 use Rattle.ds_rule.specs.Keeping.{Keeps}
+use Rattle.ds_rule.specs.Plain.{asker_in, after_event}
+use Rattle.ds_rule.specs.Records.{record_number}
 use Rattle.ds_rule.specs.World.{World, cell_of}
 
 -- what the world holds at a key, and what the store holds there: the same writes of the transaction; foreign writes
@@ -54,9 +55,6 @@ record_for t = record {
   epoch = t.asker.epoch;
   status = status_for t.fate;
 }
-
-abbrev pub record_number : TxnRecord → ℕ
-record_number t = t.txn.0
 
 -- the record says what the store knows, unless that is in doubt
 abbrev pub HasRecord : Mode → StoreTxn → List TxnRecord → Type 0
@@ -100,17 +98,19 @@ IsKnown (FailedSince n) = Unit {0}
 IsKnown (Unknown ws) = ⊥
 IsKnown (OverWith s) = Unit {0}
 
--- who asks is no transaction, or the open one
+-- who asks is no transaction, or one is open of which this holds
+abbrev pub OfOpen : (TxnNo → StoreTxn → Type 0) → Option TxnNo → Option StoreTxn → Type 0
+OfOpen P None o = Unit {0}
+OfOpen P (Some n) None = ⊥
+OfOpen P (Some n) (Some t) = P n t
+
+-- it is the open one that asks
 abbrev pub IsWho : Option TxnNo → Option StoreTxn → Type 0
-IsWho None o = Unit {0}
-IsWho (Some n) None = ⊥
-IsWho (Some n) (Some t) = n.0 ≡ t.asker.number
+IsWho n o = OfOpen (λ n t. n.0 ≡ t.asker.number) n o
 
 -- and it is known what became of it
 abbrev pub Knows : Option TxnNo → Option StoreTxn → Type 0
-Knows None o = Unit {0}
-Knows (Some n) None = ⊥
-Knows (Some n) (Some t) = IsKnown t.mode
+Knows n o = OfOpen (λ n t. IsKnown t.mode) n o
 
 -- the wire is ready for the batch: its world stands for the store, and foreign writes stay above the batch's stamp and
 -- the transaction's

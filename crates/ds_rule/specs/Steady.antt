@@ -2,7 +2,7 @@
 use Rattle.std.specs.Prelude.{◌≡◌, Bool, true, not, ◌&&◌, ◌==◌, List, [], ◌∷◌, map}
 use Rattle.std.specs.List.{list_any, list_all}
 use Rattle.ds_desc.specs.declared.desc.Info.{Info}
-use Rattle.ds_rule.specs.World.{World}
+use Rattle.ds_rule.specs.World.{World, is_replica}
 
 -- each range's descriptor with its lease
 abbrev pub infos_in : World → List Info
@@ -15,7 +15,7 @@ ids_differ (i ∷ is) = not (list_any (λ j. j.desc.id == i.desc.id) is) && ids_
 
 -- the lease is at one of the nodes
 abbrev pub has_lease : Info → Bool
-has_lease i = list_any (λ n. n == i.lease.node) i.desc.nodes
+has_lease i = is_replica i.lease.node i.desc.nodes
 
 -- no old descriptor waits to be looked up, no two ranges have one id, and each has its lease at one of its nodes
 pub record Steady (w : World) : Type 0 where

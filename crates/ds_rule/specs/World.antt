@@ -1,5 +1,6 @@
 -- The world: its ranges, and what a lookup answers.
 use Rattle.std.specs.Prelude.{◌≡◌, ℕ, Bool, true, List, [], ◌∷◌, ◌++◌, ◌==◌, map, take, find, reverse, Option, Some, None, if◌then◌else◌}
+use Rattle.std.specs.List.{list_any}
 use Rattle.ds_base.specs.Order.{key_lt, holds, bound}
 use Rattle.ds_base.specs.Ordered.{Ascends}
 use Rattle.ds_base.specs.declared.value.Dir.{Dir}
@@ -10,7 +11,7 @@ use Rattle.ds_desc.specs.declared.desc.Info.{Info}
 use Rattle.ds_kind.specs.declared.batch.Piece.{Piece}
 use Rattle.ds_cell.specs.Content.{Content}
 use Rattle.ds_rule.specs.declared.record.TxnRecord.{TxnRecord}
-use Rattle.ds_cell.specs.Ask.{Cell, key_of, content_at}
+use Rattle.ds_cell.specs.Ask.{AllIn, Cell, key_of, content_at}
 
 -- a range with all that it holds, by key
 pub record Range : Type 0 where
@@ -61,8 +62,7 @@ cell_of w k = content_at k (contents w.ranges)
 
 -- all these keys lie in the span
 abbrev pub Inside : List ℕ → List ℕ → List Cell → Type 0
-Inside s e [] = Unit {0}
-Inside s e (p ∷ ps) = (holds s e p.0 ≡ true) × Inside s e ps
+Inside s e ps = AllIn key_of s e ps
 
 -- the range begins at s, and holds keys of its own span alone, in their order
 pub record Fits (s : List ℕ) (r : Range) : Type 0 where
@@ -92,13 +92,29 @@ abbrev pub first_or : ℕ → List ℕ → ℕ
 first_or n [] = n
 first_or n (x ∷ xs) = x
 
--- the range that contains the key and up to eight that follow; or the armed descriptor alone, with a lease of its own making
+-- the first of some nodes, 0 where there is none
+abbrev pub first_node : List ℕ → ℕ
+first_node ns = first_or 0 ns
+
+-- the node is among these
+abbrev pub is_replica : ℕ → List ℕ → Bool
+is_replica n ns = list_any (λ m. m == n) ns
+
+-- an old descriptor as a lookup gives it: the lease is with its first node, and has the number 0
+abbrev pub armed_row : RangeDesc → Info
+armed_row desc = record { desc = desc; lease = record { node = first_node desc.nodes; number = 0 } }
+
+-- the old descriptor answers a lookup of the key
+abbrev pub answers_lookup : Dir → List ℕ → RangeDesc → Bool
+answers_lookup d k a = contains d k a.span
+
+-- the range that contains the key and up to eight that follow; or an old descriptor alone
 abbrev pub rows_at : Dir → List ℕ → World → Option RangeDesc → List Info
 rows_at d k w None = map (λ r. r.info) (take 9 (from_first (λ r. contains d k r.info.desc.span) (in_order d w.ranges)))
-rows_at d k w (Some desc) = record { desc = desc; lease = record { node = first_or 0 desc.nodes; number = 0 } } ∷ []
+rows_at d k w (Some desc) = armed_row desc ∷ []
 
 abbrev pub look_rows : World → List ℕ → Dir → List Info
-look_rows w k d = rows_at d k w (find (λ a. contains d k a.span) w.armed)
+look_rows w k d = rows_at d k w (find (answers_lookup d k) w.armed)
 
 abbrev pub look_world : World → List ℕ → Dir → World
-look_world w k d = record w { armed = without_first (λ a. contains d k a.span) w.armed }
+look_world w k d = record w { armed = without_first (answers_lookup d k) w.armed }

@@ -3,8 +3,7 @@ ghost use Rattle.std.specs.Prelude.{◌≡◌, ◌==◌, ◌++◌, ◌∷◌, []
 ghost use Rattle.std.specs.Option.{option_copied};
 ghost use Rattle.ds_cell.specs.Content.{Rises};
 ghost use Rattle.ds_cell.specs.Seen.{last_of};
-ghost use Rattle.ds_rule.specs.Moves.{with_last};
-ghost use Rattle.ds_rule.specs.Records.{record_number, record_of, with_record, with_status, RisesIf, IsFirstFrom};
+ghost use Rattle.ds_rule.specs.Records.{record_number, record_of, with_last, with_record, with_status, RisesIf, IsFirstFrom};
 
 use ds_base::{Copies, Stamp, TxnNo};
 use ds_kind::Flights;

@@ -1,8 +1,11 @@
 //! What a sender speaks through.
-ghost use Rattle.std.specs.Prelude.{◌≡◌, ◌<◌, ℕ, List, None, Result};
+ghost use Rattle.std.specs.Prelude.{◌≡◌, ◌<◌, ℕ, List, Result, true};
+ghost use Rattle.std.specs.List.{list_all};
 ghost use Rattle.std.specs.declared.alloc.AllocError.{AllocError};
 ghost use Rattle.ds_base.specs.declared.value.Dir.{Dir};
 ghost use Rattle.ds_desc.specs.declared.meta.Looked.{Looked};
+ghost use Rattle.ds_kind.specs.Asks.{has_proper_span};
+ghost use Rattle.ds_kind.specs.Parts.{requests_of};
 
 use crate::answer::Answer;
 use ds_desc::Meta;
@@ -20,9 +23,10 @@ pub trait Wire: Meta {
     /// Sends the piece to the node. The world may move first, with foreign writes above the floor
     /// alone; then one step stands in the journal with what was asked and answered, by the rule
     /// of delivery. `Refused` and `Lost` come only where their counts rose. After want of memory
-    /// the piece was not delivered and no step stands. No piece has a limit yet.
+    /// the piece was not delivered and no step stands. Each of its requests must have a proper
+    /// span: a point whose key has room for one more byte, or a start below its end.
     fn send(&mut self, alloc: Global, node: u8, piece: &Piece) -> Result<Answer, AllocError>
-        requires { piece.now.head.left ≡ None }
+        requires { list_all has_proper_span (requests_of piece.now.items) ≡ true }
         ensures { Sends (state self.old) (state self.new) node piece.now result };
 
     /// Which of so many waiting pieces is sent next: the next pick by their number, and the first

@@ -123,7 +123,7 @@ its_steps_play : BatchPlays (played written) (batch_at 20 (get key_a ∷ [])) no
 its_steps_play = record {
   asked = asked_at 20 (get key_a ∷ []);
   asks = refl;
-  plays = (tt, (refl, refl), (a_get_is_a_piece_of_its_batch (alone_at 20), refl, refl));
+  plays = (refl, (refl, refl), (a_get_is_a_piece_of_its_batch (alone_at 20) None, refl, refl));
 }
 
 a_get_after_a_write_has_a_legal_journal : LegalJournal script (entry 7 ∷ [])
@@ -161,7 +161,7 @@ abbrev txn_world : RecordStatus → World
 txn_world s = record begun { records = txn_record 1 s ∷ [] }
 
 its_get_plays : BatchPlays (record { world = txn_world RecordStatus.Pending; asks = txn_asks }) (batch_of_txn (get key_a ∷ [])) nothing_beside (Send 1 (piece (by_txn 1) 1 (get key_a ∷ [])) (Done none_seen) ∷ []) (txn_world RecordStatus.Pending)
-its_get_plays = record { asked = asked_by (by_txn 1) (get key_a ∷ []); asks = refl; plays = (a_get_is_a_piece_of_its_batch (by_txn 1), refl, refl) }
+its_get_plays = record { asked = asked_by (by_txn 1) (get key_a ∷ []); asks = refl; plays = (a_get_is_a_piece_of_its_batch (by_txn 1) None, refl, refl) }
 
 a_transaction_that_reads_has_a_legal_journal : LegalJournal txn_script txn_log
 a_transaction_that_reads_has_a_legal_journal = (

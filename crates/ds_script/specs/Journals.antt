@@ -66,7 +66,7 @@ first_played = record { world = no_world; asks = no_asks }
 pub record BatchPlays (s : Played) (b : Batch) (block : Block) (steps : List JournalStep) (v : World) : Type 0 where
   pub asked : Asking
   pub asks : asking s.asks.asker b ≡ Some asked
-  pub plays : BlockPlays asked 1 block.events s.world steps v
+  pub plays : BlockPlays asked [] 1 block.events s.world steps v
 
 abbrev pub event_world : Option Event → World → World
 event_world None w = w

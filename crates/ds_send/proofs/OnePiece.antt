@@ -1,5 +1,5 @@
 -- One piece of a request: the part from a key on, up to another or to the end of the route's range.
-use Rattle.std.proofs.Common.{◌≡◌, ℕ, true, List, [], ◌∷◌, sym, subst}
+use Rattle.std.proofs.Common.{◌≡◌, ℕ, true, List, [], ◌∷◌, sym, ap, ◌∙◌, subst}
 use Rattle.ds_base.specs.Order.{Extent, key_lt, key_le, min_key, holds}
 use Rattle.ds_base.specs.declared.value.Dir.TheVariants.{Forward}
 use Rattle.ds_base.proofs.SmallFacts.{and_second}
@@ -7,7 +7,12 @@ use Rattle.ds_base.proofs.OrderedFacts.{le_trans}
 use Rattle.ds_base.proofs.KeyFacts.{min_first}
 use Rattle.ds_desc.specs.declared.desc.Info.{Info}
 use Rattle.ds_desc.specs.declared.meta.Looked.TheVariants as Looked
-use Rattle.ds_kind.specs.Request.{cut_to, span_of}
+use Rattle.ds_kind.specs.Asks.{has_proper_span, is_proper}
+use Rattle.ds_kind.specs.CutReach.{cut_reach}
+use Rattle.ds_kind.specs.Reach.{Reach, At, Over}
+use Rattle.ds_kind.specs.Request.{cut_to, reach_of, span_of}
+use Rattle.ds_kind.specs.declared.request.Request.{Request}
+use Rattle.ds_kind.proofs.RequestFacts.{reach_cut}
 use Rattle.ds_kind.specs.declared.batch.Item.{Item}
 use Rattle.ds_kind.specs.declared.batch.Piece.{Piece}
 use Rattle.ds_rule.specs.declared.answer.Answer.{Answer}
@@ -18,6 +23,14 @@ use Rattle.ds_rule.specs.Pieces.{IsOneOf, PieceOf}
 use Rattle.ds_send.specs.Sent.{IsSendable}
 use Rattle.ds_send.proofs.Cuts.{piece-of}
 use Rattle.ds_send.proofs.Going.{IsSent, is-sent, min_above, part-goes}
+
+-- the part's span is proper too
+pub part-proper : (r : Request) (m k : List ℕ) → has_proper_span r ≡ true → key_lt m k ≡ true → has_proper_span (cut_to m k r) ≡ true
+part-proper r m k proper some = ap is_proper (reach_cut m k r) ∙ at-reach (reach_of r) proper
+  where
+    at-reach : (x : Reach) → is_proper x ≡ true → is_proper (cut_reach m k x) ≡ true
+    at-reach (At q) h = h
+    at-reach (Over s e) h = some
 
 -- the part has a key
 pub part-some : (m e k : List ℕ) (s : Extent) → key_lt m e ≡ true → holds s.start s.end m ≡ true → k ≡ min_key e s.end → key_lt m k ≡ true

@@ -1,6 +1,7 @@
 -- The first world keeps what every world keeps.
-use Rattle.std.proofs.Common.{◌≡◌, ℕ, ◌+◌, ◌<◌, Bool, true, false, not, cond, ◌&&◌, ◌||◌, ◌==◌, List, [], ◌∷◌, map, refl, sym, ap, ◌∙◌, subst, ne_eqb, arith}
+use Rattle.std.proofs.Common.{◌≡◌, ℕ, ◌+◌, ◌<◌, true, false, not, cond, ◌&&◌, ◌||◌, ◌==◌, List, [], ◌∷◌, map, refl, sym, ap, ◌∙◌, subst, ne_eqb, arith}
 use Rattle.std.specs.List.{list_any, list_all}
+use Rattle.std.proofs.Math.Bool.{and-false}
 use Rattle.ds_base.specs.Order.{key_le}
 use Rattle.ds_base.specs.declared.value.Dir.TheVariants.{Forward}
 use Rattle.ds_base.proofs.OrderedFacts.{le_of_lt, le_trans, not_lt_of_le}
@@ -47,17 +48,13 @@ start-later m s (r ∷ rs) low t = (
 abbrev HasOne : List RangeDesc → Range → Type 0
 HasOne ds r = (k : List ℕ) → holds_key k r ≡ true → containing k ds ≡ r.info.desc ∷ []
 
-and_false : (t : Bool) → (t && false) ≡ false
-and_false true = refl
-and_false false = refl
-
 -- a range that ends before them has none of their keys
 one-past : (r : Range) (ds : List RangeDesc) (m : List ℕ) (rs : List Range) → key_le (end_of r) m ≡ true → Tiles m rs → Each (HasOne ds) rs → Each (HasOne (r.info.desc ∷ ds)) rs
 one-past r ds m [] low t one = tt
 one-past r ds m (q ∷ qs) low t one = (
   (λ k h.
       let from : key_le (end_of r) k ≡ true = le_trans (end_of r) (start_of q) k (subst (λ z. key_le (end_of r) z ≡ true) (sym t.0.begins) low) (and_first _ _ h) in
-      let out : contains Forward k r.info.desc.span ≡ false = ap (λ b. key_le (start_of r) k && b) (not_lt_of_le (end_of r) k from) ∙ and_false (key_le (start_of r) k) in
+      let out : contains Forward k r.info.desc.span ≡ false = ap (λ b. key_le (start_of r) k && b) (not_lt_of_le (end_of r) k from) ∙ and-false (key_le (start_of r) k) in
       ap (λ b. cond b (r.info.desc ∷ containing k ds) (containing k ds)) out ∙ one.0 k h),
   one-past r ds (end_of q) qs (le_trans (end_of r) m (end_of q) low (le_of_lt m (end_of q) t.0.some)) t.1 one.1,
 )

@@ -7,9 +7,9 @@ use Rattle.ds_desc.specs.Descs.{GenerationsRise}
 use Rattle.ds_desc.specs.Replicas.{AreReplicas}
 use Rattle.ds_desc.specs.declared.desc.Lease.{Lease}
 use Rattle.ds_desc.specs.declared.desc.RangeDesc.{RangeDesc}
-use Rattle.ds_rule.specs.Shifts.{can_lease, can_move, is_replica, lease_among, lease_in, move_in, unchanged, with_lease, with_nodes}
+use Rattle.ds_rule.specs.Shifts.{can_lease, can_move, lease_among, lease_in, move_in, unchanged, with_lease, with_nodes}
 use Rattle.ds_rule.specs.Steady.{has_lease}
-use Rattle.ds_rule.specs.World.{Range, end_of, first_or}
+use Rattle.ds_rule.specs.World.{Range, end_of, first_or, is_replica}
 use Rattle.ds_rule.proofs.Routes.{le_itself}
 use Rattle.ds_world.proofs.Newest.{newest-after, newest-made, rise-one}
 use Rattle.ds_world.proofs.Stretches.{IsStretch, Keeping, infos, nothing}

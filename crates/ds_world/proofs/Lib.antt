@@ -1,6 +1,9 @@
+pub mod Apart
 pub mod Cells
 pub mod Commutes
 pub mod Delivers
+pub mod Events
+pub mod Examples
 pub mod First
 pub mod Foreign
 pub mod Leases

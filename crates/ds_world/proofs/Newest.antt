@@ -21,7 +21,7 @@ use Rattle.ds_rule.proofs.Routes.{le_itself}
 containing-append : (k : List ℕ) (xs ys : List RangeDesc) → containing k (xs ++ ys) ≡ containing k xs ++ containing k ys
 containing-append k xs ys = filter-append (λ d. contains Forward k d.span) xs ys
 
-last-append : {X : Type 0} (xs : List X) (y : X) → last_of (xs ++ y ∷ []) ≡ Some y
+pub last-append : {X : Type 0} (xs : List X) (y : X) → last_of (xs ++ y ∷ []) ≡ Some y
 last-append xs y = ap (find (λ _. true)) (reverse-append xs (y ∷ []))
 
 -- ---- generations

@@ -1,12 +1,65 @@
 //! The laws as theorems.
 ghost use Rattle.ds_cell.specs.declared.entry.Version.{Version};
+ghost use Rattle.std.specs.Prelude.{ℕ, List};
+ghost use Rattle.ds_cell.specs.Store.{Asker};
+ghost use Rattle.ds_rule.specs.Close.{with_begin};
 ghost use Rattle.ds_rule.specs.Deliver.{deliver_world};
+ghost use Rattle.ds_rule.specs.Moves.{abort_last, moved};
 ghost use Rattle.ds_rule.specs.Shifts.{split_at, merge_at, lease_to, move_to, stale_by, foreign_at};
-ghost use Rattle.ds_world.specs.Laws.{KeepsAll, LeavesContents, LeavesDescs, LeavesRest, AddsDescs, ArmsAlone, GoesBesideWrites, IsNoEvent, WritesAt, WritesNowhere};
+ghost use Rattle.ds_world.specs.Laws.{KeepsAll, LeavesContents, LeavesDescs, LeavesRest, AddsDescs, ArmsAlone, GoesBeside, GoesBesideApart, GoesBesideWrites, HasReplicas, IsNoEvent, WritesAt, WritesNowhere};
 
 use ds_base::Key;
 use ds_desc::Nodes;
 use ds_kind::Piece;
+use ds_rule::Event;
+
+/// Does nothing: its clause tells that an event moves a range to replicas alone.
+fn replicas_of(event: &Event)
+    ensures { HasReplicas event.now }
+{
+    match event {
+        Event::Move { nodes, .. } => {
+            nodes.len();
+        }
+        Event::Write { .. }
+        | Event::Split { .. }
+        | Event::Merge { .. }
+        | Event::Lease { .. }
+        | Event::Stale { .. }
+        | Event::Abort
+        | Event::Arrive { .. }
+        | Event::LoseRequest { .. }
+        | Event::LoseReply { .. }
+        | Event::Copy { .. }
+        | Event::Restart { .. } => {}
+    }
+}
+
+/// Does nothing: its clause is the law of all events. Each keeps what every world keeps, an abort
+/// and the arrival of a late copy too.
+pub fn event_laws(event: &Event)
+    ensures { KeepsAll (λ w. moved w event.now) }
+{
+    replicas_of(event);
+}
+
+/// Does nothing: its clauses are the laws of what changes the records alone, the begin of a
+/// transaction and the abort of the open one. Both keep what every world keeps.
+pub fn record_laws()
+    ensures begin { (t : Asker) → KeepsAll (with_begin t) }
+    ensures abort { KeepsAll abort_last }
+{}
+
+/// Does nothing: its clauses are the laws of two events beside each other, of which one is a lease of
+/// the key's range to the node. A lease of another range, and an old descriptor of any, lead to the
+/// same world before it and after it.
+pub fn beside_laws(key: &Key, node: u8)
+    ensures leases { (q : List ℕ) (n : ℕ) → GoesBesideApart key.now q (lease_to key.now node) (lease_to q n) }
+    ensures stale { (q : List ℕ) (back : ℕ) → GoesBeside (lease_to key.now node) (stale_by q back) }
+{
+    let _ = key;
+    let _ = node;
+}
 
 /// Does nothing: its clauses are the laws of a split at the key. It keeps what every world keeps and
 /// what every key holds, only adds descriptors, and leaves all else but the ranges. A foreign write at

@@ -5,5 +5,6 @@
 mod laws;
 
 pub use laws::{
-    deliver_laws, foreign_laws, lease_laws, merge_laws, move_laws, split_laws, stale_laws,
+    beside_laws, deliver_laws, event_laws, foreign_laws, lease_laws, merge_laws, move_laws,
+    record_laws, split_laws, stale_laws,
 };

@@ -1,9 +1,13 @@
-use Rattle.std.proofs.Common.{refl, sym, ap, ◌∙◌}
+use Rattle.std.proofs.Common.{true, ◌&&◌, refl, sym, ap, ◌∙◌}
+use Rattle.std.specs.List.{list_all}
 use Rattle.ds_base.proofs.OrderedFacts.{le_trans}
+use Rattle.ds_kind.specs.Asks.{has_proper_span}
+use Rattle.ds_kind.specs.Parts.{requests_of}
 use Rattle.ds_kind.specs.Request.{cut_to, span_of}
 use Rattle.ds_rule.specs.declared.answer.Answer.TheVariants.{Done, Failed, Refused, Lost}
+use Rattle.ds_send.proofs.AllSoFar.{proper-one}
 use Rattle.ds_send.proofs.Going.{lost-look, sent-trip, sent-failed, sent-done, some-reply, reply-kind}
-use Rattle.ds_send.proofs.OnePiece.{part-some, part-within, sent-part}
+use Rattle.ds_send.proofs.OnePiece.{part-proper, part-some, part-within, sent-part}
 use Rattle.ds_send.proofs.pieces.one_piece.Goals as goal
 
 pub returns-in-None : goal.returns-in-None
@@ -66,4 +70,9 @@ returns g c =
     sent-trip c.args.asked.now _ _ _ _ _ Lost sent
 
 pub send-requires : goal.send-requires
-send-requires g c = ap (λ p. p.head.left) c.in_ok-piece.ensures ∙ c.requires.sendable.unlimited
+send-requires g c =
+    let i = c.args.item.now in
+    let stop = c.in_ok-stop.stop in
+    let some = part-some c.args.at.now c.args.end.now stop c.in-Some.info.desc.span c.requires.below (rw c.in-Some.is at c.in_ok-info.ensures.holds) c.in_ok-stop.ensures in
+    ap (λ p. list_all has_proper_span (requests_of p.items)) c.in_ok-piece.ensures
+    ∙ ap (λ t. t && true) (part-proper i.request c.args.at.now stop (proper-one i c.args.asked.now.items c.requires.one_of c.requires.sendable.proper) some)

@@ -1,10 +1,13 @@
 use Rattle.std.proofs.Common.{◌≡◌, true, false, ap, ◌∙◌, subst, ◌∷◌}
+use Rattle.std.specs.List.{list_all}
 use Rattle.ds_base.specs.Order.{Extent}
 use Rattle.ds_base.specs.declared.value.Dir.TheVariants.{Forward}
 use Rattle.ds_desc.specs.Contains.{contains}
 use Rattle.ds_desc.specs.declared.meta.Looked.TheVariants.{Rows}
 use Rattle.ds_rule.specs.declared.answer.Answer.TheVariants.{Done, Failed, Refused, Lost}
 use Rattle.ds_rule.specs.declared.journal.JournalStep.TheVariants.{Look}
+use Rattle.ds_kind.specs.Asks.{has_proper_span}
+use Rattle.ds_kind.specs.Parts.{requests_of}
 use Rattle.ds_kind.specs.WholeSpan.{whole_span}
 use Rattle.ds_rule.specs.Clauses.{Steps}
 use Rattle.ds_send.proofs.WholeSteps.{holds-whole, look-lost, wide-once, goes, served-once, failed-once, refused-once, lost-once}
@@ -59,4 +62,4 @@ returns g c =
     (goes c.args.asked.now _ _ _ c.span.inside.start i look.0 c.in_ok-piece.piece c.in_ok-replies.field-0 Lost c.requires.sendable holds look.1 c.in_ok-piece.ensures c.in_ok-replies.ensures c.in-Lost.is)
 
 pub send-requires : goal.send-requires
-send-requires g c = ap (λ p. p.head.left) c.in_ok-piece.ensures ∙ c.requires.sendable.unlimited
+send-requires g c = ap (λ p. list_all has_proper_span (requests_of p.items)) c.in_ok-piece.ensures ∙ c.requires.sendable.proper

@@ -1,0 +1,8 @@
+use Rattle.ds_world.proofs.Apart.{lease_lease, lease_stale}
+use Rattle.ds_world.proofs.laws.beside_laws.Goals as goal
+
+pub returns-clause-leases : goal.returns-clause-leases
+returns-clause-leases c = λ q n w apart. lease_lease c.args.key.now q c.args.node n w apart
+
+pub returns-clause-stale : goal.returns-clause-stale
+returns-clause-stale c = λ q back w. lease_stale c.args.key.now q c.args.node back w
