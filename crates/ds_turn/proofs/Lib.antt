@@ -1,0 +1,14 @@
+pub mod Again
+pub mod Batches
+pub mod Courses
+pub mod Deeds
+pub mod Examples
+pub mod KeyFacts
+pub mod Keys
+pub mod OnePiece
+pub mod Refusing
+pub mod Settled
+pub mod Stamps
+pub mod Swaps
+pub mod TooOld
+pub mod Turns

@@ -1,0 +1,56 @@
+//! A whole batch, told by its keys.
+ghost use Rattle.ds_turn.specs.Batches.{BatchGives, BatchNumbers, CutDeed, PieceGives};
+ghost use Rattle.ds_turn.specs.Keys.{FailsAtKey, FirstFails, GivesAtKeys, KeysGive};
+ghost use Rattle.ds_turn.specs.Turns.{CutsActAs};
+
+/// Does nothing. Its clause: a batch that was asked and not refused was refused at no key, and left at
+/// each what its items there leave one after another.
+pub fn gives_at_keys()
+    ensures { GivesAtKeys }
+{}
+
+/// Does nothing. Its clause: a batch that is refused at no key is not refused.
+pub fn keys_give()
+    ensures { KeysGive }
+{}
+
+/// Does nothing. Its clause: a batch fails as its first refused item does at the least key that refuses
+/// it.
+pub fn first_fails()
+    ensures { FirstFails }
+{}
+
+/// Does nothing. Its clause: a batch that failed was refused at a key, and its failure says so.
+pub fn fails_at_key()
+    ensures { FailsAtKey }
+{}
+
+/// Does nothing. Its clause: a batch of a transaction in pieces between foreign writes: where none was
+/// refused, the batch asked at once of the store is not refused, and leaves what the world holds, but
+/// for the foreign writes.
+pub fn batch_gives()
+    ensures { BatchGives }
+{}
+
+/// Does nothing. Its clause: the same of a batch without a transaction, whose one piece settles what it
+/// wrote.
+pub fn piece_gives()
+    ensures { PieceGives }
+{}
+
+/// Does nothing. Its clause: a request cut to a span does at a key what the whole request does there.
+pub fn cut_deed()
+    ensures { CutDeed }
+{}
+
+/// Does nothing. Its clause: the numbers of a batch's items stand in their order, also of those that
+/// hold one key.
+pub fn batch_numbers()
+    ensures { BatchNumbers }
+{}
+
+/// Does nothing. Its clause: cuts of a batch's items, whose positions at a key are those of the items
+/// that hold it, act there as these.
+pub fn cuts_act_as()
+    ensures { CutsActAs }
+{}
