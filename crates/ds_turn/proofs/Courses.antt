@@ -42,7 +42,7 @@ and_turn-fine i (Put w b) (TurnFails p f) bits ws h = cc
 and_turn-fine i (Keep b) (TurnGives bs us) bits ws h = (tt, bs, us, refl)
 and_turn-fine i (Put w b) (TurnGives bs us) bits ws h = (tt, bs, us, refl)
 
-not-fine : {G : Type 0} (v : Verdict) (f : ActFault) → v ≡ Refuse f → IsNoRefusal v → G
+pub not-fine : {G : Type 0} (v : Verdict) (f : ActFault) → v ≡ Refuse f → IsNoRefusal v → G
 not-fine (Keep b) f e h = cc
 not-fine (Put w b) f e h = cc
 not-fine (Refuse g) f e h = absurd h

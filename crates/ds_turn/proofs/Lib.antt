@@ -3,6 +3,7 @@ pub mod Batches
 pub mod Courses
 pub mod Deeds
 pub mod Examples
+pub mod Failing
 pub mod KeyFacts
 pub mod Keys
 pub mod OnePiece

@@ -43,7 +43,7 @@ turn_alone s a front i back c d bits ws k low all did =
 
 -- where positions rise, one item stands at each
 
-above-all : (m : ℕ) (xs : List Item) (x : Item) → AllAbove position_of m xs → IsOneOf x xs → m < x.pos
+pub above-all : (m : ℕ) (xs : List Item) (x : Item) → AllAbove position_of m xs → IsOneOf x xs → m < x.pos
 above-all m [] x all h = absurd h
 above-all m (y ∷ ys) x all (inl same) = subst (λ z. m < position_of z) (sym same) all.0
 above-all m (y ∷ ys) x all (inr rest) = above-all m ys x all.1 rest

@@ -1,5 +1,6 @@
 //! A whole batch, told by its keys.
 ghost use Rattle.ds_turn.specs.Batches.{BatchGives, BatchNumbers, CutDeed, PieceGives};
+ghost use Rattle.ds_turn.specs.Failing.{FailsTurn, TurnsFail};
 ghost use Rattle.ds_turn.specs.Keys.{FailsAtKey, FirstFails, GivesAtKeys, KeysGive};
 ghost use Rattle.ds_turn.specs.Turns.{CutsActAs};
 
@@ -23,6 +24,18 @@ pub fn first_fails()
 /// Does nothing. Its clause: a batch that failed was refused at a key, and its failure says so.
 pub fn fails_at_key()
     ensures { FailsAtKey }
+{}
+
+/// Does nothing. Its clause: a batch whose turn fails at a key, at an earlier position than any other
+/// key's or at the same and a key not above, fails so where it is asked at once.
+pub fn turns_fail()
+    ensures { TurnsFail }
+{}
+
+/// Does nothing. Its clause: a batch that failed where it was asked at once failed as its turn at some
+/// key, and no turn fails at an earlier position.
+pub fn fails_turn()
+    ensures { FailsTurn }
 {}
 
 /// Does nothing. Its clause: a batch of a transaction in pieces between foreign writes: where none was
