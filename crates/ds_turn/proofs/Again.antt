@@ -25,7 +25,7 @@ use Rattle.ds_cell.specs.RequestProofs.{repeats_of}
 use Rattle.ds_rule.specs.Turn.{IsNoRefusal, TurnGives, and_turn, asks_as, verdict, after_item, after_items, turn_of}
 use Rattle.ds_turn.specs.Course.{Course, ByBatch, ByOther, course_after, batch_items, with_versions, AllForeignAbove}
 use Rattle.ds_turn.specs.KeyIs.{KeyIs}
-use Rattle.ds_turn.specs.Partway.{AllLater, NumbersInOrder, AskedAgain, NoneRefused, PartwayBegins, PartwayForeign, PartwayActs, PartwayTold, PartwayAgain}
+use Rattle.ds_turn.specs.Partway.{AllLater, NumbersInOrder, AskedAgain, NoneRefused, PartwayBegins, PartwayForeign, PartwayActs, PartwayAgain}
 use Rattle.ds_turn.proofs.Deeds.{later_alike}
 use Rattle.ds_turn.proofs.Courses.{and_turn-fine, eased_more, eased_fine, after_more, more_version, stays_key, Stays}
 use Rattle.ds_turn.proofs.KeyFacts.{above_more, key_verdict, key_item, key_foreign, more_alike}
@@ -128,24 +128,13 @@ partway_begins s a c d k = record {
 }
 
 pub partway_foreign : PartwayForeign
-partway_foreign s a told lost vs c d v m high = record {
-  key = subst (KeyIs s (after_foreign v c)) (more_version v vs (after_items a (told ++ lost) d)) (key_foreign s v c _ high m.key);
+partway_foreign s a acted vs c d v m high = record {
+  key = subst (KeyIs s (after_foreign v c)) (more_version v vs (after_items a acted d)) (key_foreign s v c _ high m.key);
   above = above_more s vs v m.above high;
   stamps_rise = m.stamps_rise;
   numbers_rise = m.numbers_rise;
   none_refused = m.none_refused;
 }
-
-pub partway_told : PartwayTold
-partway_told s a told i lost vs c d m =
-    let e : told ++ i ∷ lost ≡ (told ++ i ∷ []) ++ lost = sym (append_assoc told (i ∷ []) lost) in
-    record {
-      key = subst (λ is. KeyIs s c (with_versions vs (after_items a is d))) e m.key;
-      above = m.above;
-      stamps_rise = m.stamps_rise;
-      numbers_rise = subst NumbersInOrder e m.numbers_rise;
-      none_refused = subst (λ is. NoneRefused a is d) e m.none_refused;
-    }
 
 pub stays_items : (a : At) (is : List Item) (d : Content) → Rises stamp_of d.versions → (after_items a is d).waiting ≡ [] → Stays (after_items a is d)
 stays_items a is d r none = record { rises = subst (λ vs. Rises stamp_of vs) (sym (versions-stay a is d)) r; none_waits = none }
@@ -159,29 +148,20 @@ stays_items a is d r none = record { rises = subst (λ vs. Rises stamp_of vs) (s
     versions-stay a [] d = refl
     versions-stay a (i ∷ is) d = versions-stay a is (after_item a i d) ∙ stay-by (asks_as a i) (verdict a i d) d
 
-fine-of : (v : Verdict) → ((f : ActFault) → v ≡ Refuse f → ⊥) → IsNoRefusal v
-fine-of (Keep b) never = tt
-fine-of (Put w b) never = tt
-fine-of (Refuse f) never = never f refl
-
 pub partway_acts : PartwayActs
-partway_acts s a told lost vs c d i m low numbers never =
-    let e = after_items a (told ++ lost) d in
+partway_acts s a acted vs c d i m low numbers never =
+    let e = after_items a acted d in
     let exact : verdict a i (with_versions vs e) ≡ verdict a i c = key_verdict s a i c (with_versions vs e) m.key low in
-    let fine : IsNoRefusal (verdict a i (with_versions vs e)) = subst IsNoRefusal (sym exact) (fine-of (verdict a i c) never) in
-    let same : verdict a i e ≡ verdict a i (with_versions vs e) = eased_fine _ _ (eased_more s a i vs e low m.above (stays_items a (told ++ lost) d m.stamps_rise m.key.none_waits)) fine in
-    let next : after_item a i (with_versions vs e) ≡ with_versions vs (after_item a i e) = ap (λ v. content_after (asks_as a i) v (with_versions vs e)) (sym same) ∙ after_more (asks_as a i) (verdict a i e) vs e in
-    let lists : (told ++ lost) ++ i ∷ [] ≡ told ++ (lost ++ i ∷ []) = append_assoc told lost (i ∷ []) in
-    let one-more : KeyIs s (after_item a i c) (with_versions vs (after_items a ((told ++ lost) ++ i ∷ []) d)) =
-    subst (λ x. KeyIs s (after_item a i c) x) (next ∙ ap (with_versions vs) (sym (after-append a (told ++ lost) (i ∷ []) d))) (key_item s a i c (with_versions vs e) m.key low)
-    in (
+    let fine : IsNoRefusal (verdict a i (with_versions vs e)) = subst IsNoRefusal (sym exact) never in
+    let same : verdict a i e ≡ verdict a i (with_versions vs e) = eased_fine _ _ (eased_more s a i vs e low m.above (stays_items a acted d m.stamps_rise m.key.none_waits)) fine in
+    let next : after_item a i (with_versions vs e) ≡ with_versions vs (after_item a i e) = ap (λ v. content_after (asks_as a i) v (with_versions vs e)) (sym same) ∙ after_more (asks_as a i) (verdict a i e) vs e in (
       sym (same ∙ exact),
       record {
-        key = subst (λ is. KeyIs s (after_item a i c) (with_versions vs (after_items a is d))) lists one-more;
+        key = subst (λ x. KeyIs s (after_item a i c) x) (next ∙ ap (with_versions vs) (sym (after-append a acted (i ∷ []) d))) (key_item s a i c (with_versions vs e) m.key low);
         above = m.above;
         stamps_rise = m.stamps_rise;
-        numbers_rise = subst NumbersInOrder lists numbers;
-        none_refused = subst (λ is. NoneRefused a is d) lists (did-push a (told ++ lost) i d m.none_refused (subst IsNoRefusal (sym same) fine));
+        numbers_rise = numbers;
+        none_refused = did-push a acted i d m.none_refused (subst IsNoRefusal (sym same) fine);
       },
     )
 
@@ -196,8 +176,8 @@ one-bit a i (Put w b) c fine same = ((b, refl, subst (λ v. IsBitOf v b) (sym sa
 one-bit a i (Refuse f) c fine same = absurd fine
 
 pub partway_again : PartwayAgain
-partway_again s a told lost vs c d xs i ys m low is =
-    let e = after_items a (told ++ lost) d in
+partway_again s a acted vs c d xs i ys m low is =
+    let e = after_items a acted d in
     let first = after_items a xs d in
     let all : after_items a ys (after_item a i first) ≡ e = sym (after-append a xs (i ∷ ys) d) ∙ ap (λ is. after_items a is d) (sym is) in
     let later : IsLater (asks_as a i) (after_item a i first) e = subst (IsLater (asks_as a i) (after_item a i first)) all (later-items a i ys (after_item a i first) (numbers-after xs i ys (subst NumbersInOrder is m.numbers_rise))) in

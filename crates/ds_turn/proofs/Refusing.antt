@@ -37,8 +37,8 @@ acts-foreign s [] = tt
 acts-foreign s (i ∷ is) = acts-foreign s is
 
 pub partway_refused : PartwayRefused
-partway_refused s a told lost vs c d i later f m low refused =
-    let is = told ++ lost in
+partway_refused s a acted vs c d i later f m low refused =
+    let is = acted in
     let e = after_items a is d in
     let here : verdict a i (with_versions vs e) ≡ Refuse f = key_verdict s a i c (with_versions vs e) m.key low ∙ refused in (
       λ young.

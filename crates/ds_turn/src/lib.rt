@@ -8,4 +8,4 @@ mod middle_laws;
 
 pub use batch_laws::{batch_gives, batch_numbers, cut_deed, cuts_act_as, fails_at_key, fails_turn, first_fails, gives_at_keys, keys_give, piece_gives, turns_fail};
 pub use key_laws::{acts_alone, any_stamp, asked_again, fails_alone, fails_old, from_today, piece_alone, same_course, settles_alike, turn_alone};
-pub use middle_laws::{partway_acts, partway_again, partway_begins, partway_foreign, partway_refused, partway_told};
+pub use middle_laws::{partway_acts, partway_again, partway_begins, partway_foreign, partway_refused};

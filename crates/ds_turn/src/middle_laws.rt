@@ -1,5 +1,5 @@
 //! The middle of a batch at one key: what each step makes of it.
-ghost use Rattle.ds_turn.specs.Partway.{PartwayActs, PartwayAgain, PartwayBegins, PartwayForeign, PartwayRefused, PartwayTold};
+ghost use Rattle.ds_turn.specs.Partway.{PartwayActs, PartwayAgain, PartwayBegins, PartwayForeign, PartwayRefused};
 
 /// Does nothing. Its clause: before a batch nothing of it is done.
 pub fn partway_begins()
@@ -11,15 +11,9 @@ pub fn partway_foreign()
     ensures { PartwayForeign }
 {}
 
-/// Does nothing. Its clause: the next item acts, and answers as it would alone; its reply is still under
-/// way.
+/// Does nothing. Its clause: the next item acts, and answers as it would alone.
 pub fn partway_acts()
     ensures { PartwayActs }
-{}
-
-/// Does nothing. Its clause: a reply comes in.
-pub fn partway_told()
-    ensures { PartwayTold }
 {}
 
 /// Does nothing. Its clause: an item that acted before acts again: it answers as it did, and nothing
