@@ -40,10 +40,10 @@ cut_deed s e (AdminTransferLease a) = refl
 
 -- parts act as the whole
 
-part-verdict : (a : At) (j i : Item) (c : Content) → ActsAs j i → verdict a j c ≡ verdict a i c
+pub part-verdict : (a : At) (j i : Item) (c : Content) → ActsAs j i → verdict a j c ≡ verdict a i c
 part-verdict a j i c h = ap (λ f. f (asks_as a j) c) h.deed ∙ ap (λ n. deed_of i.request (record a { seq = n }) c) h.number
 
-part-after : (a : At) (j i : Item) (c : Content) → ActsAs j i → after_item a j c ≡ after_item a i c
+pub part-after : (a : At) (j i : Item) (c : Content) → ActsAs j i → after_item a j c ≡ after_item a i c
 part-after a j i c h =
     ap (λ v. content_after (asks_as a j) v c) (part-verdict a j i c h) ∙ ap (λ n. content_after (record a { seq = n }) (verdict a i c) c) h.number
 
@@ -110,7 +110,7 @@ after-held k i (j ∷ js) all =
       | false ↦ after-held k i js all.1
     ]
 
-rise-held : (k : List ℕ) (is : List Item) → NumbersInOrder is → NumbersInOrder (items_at k is)
+pub rise-held : (k : List ℕ) (is : List Item) → NumbersInOrder is → NumbersInOrder (items_at k is)
 rise-held k [] all = tt
 rise-held k (i ∷ is) all =
     elim (speaks_of k i) as (λ t. NumbersInOrder (cond t (i ∷ items_at k is) (items_at k is))) [

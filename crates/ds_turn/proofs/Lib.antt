@@ -7,6 +7,7 @@ pub mod Failing
 pub mod KeyFacts
 pub mod Keys
 pub mod OnePiece
+pub mod Progress
 pub mod Refusing
 pub mod Settled
 pub mod Stamps

@@ -5,5 +5,6 @@ pub mod Failing
 pub mod KeyIs
 pub mod Keys
 pub mod Partway
+pub mod Progress
 pub mod Settling
 pub mod Turns

@@ -1,0 +1,44 @@
+//! How far a batch got, at one key and at all keys, with losses and late copies.
+ghost use Rattle.ds_turn.specs.Progress.{BatchBegins, BatchEnds, BatchGoes, BatchRefused, CutsGoAgain, CutsGoOn, ProgressKept};
+
+/// Does nothing. Its clause: where the batch's items act in their order at a key, any of those that
+/// acted acts again, and none is refused, the world holds what the items leave of the store's content,
+/// and the foreign writes since.
+pub fn progress_kept()
+    ensures { ProgressKept }
+{}
+
+/// Does nothing. Its clause: a piece's items at a key, at the positions of the next items there, act as
+/// these in their order.
+pub fn cuts_go_on()
+    ensures { CutsGoOn }
+{}
+
+/// Does nothing. Its clause: a piece's items at a key, at positions of items that acted, act again.
+pub fn cuts_go_again()
+    ensures { CutsGoAgain }
+{}
+
+/// Does nothing. Its clause: before a batch nothing of it acted, at any key.
+pub fn batch_begins()
+    ensures { BatchBegins }
+{}
+
+/// Does nothing. Its clause: whatever happens at the keys, the batch is as far along afterwards as its
+/// items acted, as long as none was refused.
+pub fn batch_goes()
+    ensures { BatchGoes }
+{}
+
+/// Does nothing. Its clause: a batch whose items all acted at each key, in whatever pieces and however
+/// often, asked at once of the store is not refused, and leaves what the world holds but for the foreign
+/// writes.
+pub fn batch_ends()
+    ensures { BatchEnds }
+{}
+
+/// Does nothing. Its clause: the batch's turn at a key fails where the next item there is refused in the
+/// world: with the same fault, and as too old where the key's foreign writes so far are made first.
+pub fn batch_refused()
+    ensures { BatchRefused }
+{}
