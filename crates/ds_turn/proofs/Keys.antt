@@ -39,10 +39,10 @@ use Rattle.ds_turn.specs.Partway.{NoneRefused}
 use Rattle.ds_turn.proofs.Again.{did_fine}
 use Rattle.ds_turn.proofs.Courses.{and_turn-fine}
 
-abbrev Bits : Type 0
+abbrev pub Bits : Type 0
 Bits = List (List ℕ × Bit)
 
-abbrev Puts : Type 0
+abbrev pub Puts : Type 0
 Puts = List (List ℕ × Option Value)
 
 -- one key more, taken apart
@@ -132,7 +132,7 @@ write-each d at (p ∷ ps) cells bs ws ps-asc asc h =
 
 -- one request
 
-abbrev IsDone : Request → At → Cells → Cells → List ℕ → Bool → Type 0
+abbrev pub IsDone : Request → At → Cells → Cells → List ℕ → Bool → Type 0
 IsDone r at cells out q true = IsNoRefusal (deed_of r at (content_at q cells)) × (content_at q out ≡ content_after at (deed_of r at (content_at q cells)) (content_at q cells))
 IsDone r at cells out q false = content_at q out ≡ content_at q cells
 
@@ -199,7 +199,7 @@ at-done r at k cells bs ws asc h =
     let all = write-each (deed_of r at) at ((k, content_at k cells) ∷ []) cells bs ws (tt, tt) asc h in
     (all.0, λ q. point-done r at k cells (write_all at ws cells) q (all.1 q))
 
-request-done : (r : Request) (at : At) (cells : Cells) (bs : Bits) (ws : Puts) → Ascends key_of cells → ask_request r at cells ≡ Gave bs ws
+pub request-done : (r : Request) (at : At) (cells : Cells) (bs : Bits) (ws : Puts) → Ascends key_of cells → ask_request r at cells ≡ Gave bs ws
     → Ascends key_of (write_all at ws cells) × ((q : List ℕ) → IsDone r at cells (write_all at ws cells) q (holds (span_of r).start (span_of r).end q))
 request-done (Get a) at cells bs ws asc h = at-done (Get a) at a.key cells bs ws asc h
 request-done (Scan a) at cells bs ws asc h = over-done (Scan a) at _ (guarded-keep (too_old at no_content) _) a.start a.end cells bs ws asc h
@@ -223,7 +223,7 @@ before-parts : (ps : List WriteAt) (qs : List Reply) (m : Made) (out : Cells) (w
 before-parts ps qs (Fails f) out ws rs d = cc
 before-parts ps qs (Gives x vs ts) out ws rs d = let same : x ≡ out = cc in (vs, ts, ap (λ z. Gives z vs ts) same)
 
-made-parts : (h : Head) (i : Item) (a : Asked) (cells : Cells) (is : List Item) (out : Cells) (ws : List WriteAt) (rs : List Reply) → and_then (made_by h i a cells) (ask_all h is) ≡ Gives out ws rs
+pub made-parts : (h : Head) (i : Item) (a : Asked) (cells : Cells) (is : List Item) (out : Cells) (ws : List WriteAt) (rs : List Reply) → and_then (made_by h i a cells) (ask_all h is) ≡ Gives out ws rs
     → (bs : Bits) × (us : Puts) × (a ≡ Gave bs us) × (vs : List WriteAt) × (ts : List Reply) × (ask_all h is (write_all (at_of h i.seq.0) us cells) ≡ Gives out vs ts)
 made-parts h i (Failed k f) cells is out ws rs e = cc
 made-parts h i (Gave bs us) cells is out ws rs e =
@@ -262,7 +262,7 @@ abbrev AllFine : (Content → Verdict) → Cells → Type 0
 AllFine d [] = Unit {0}
 AllFine d (p ∷ ps) = IsNoRefusal (d p.1) × AllFine d ps
 
-abbrev IsGiven : Asked → Type 0
+abbrev pub IsGiven : Asked → Type 0
 IsGiven a = (bs : Bits) × (ws : Puts) × (a ≡ Gave bs ws)
 
 one-given : (k : List ℕ) (v : Verdict) (r : Asked) → IsNoRefusal v → IsGiven r → IsGiven (one_more k v r)
@@ -298,7 +298,7 @@ fine-between d s e (p ∷ ps) asc fine =
       | false ↦ λ h. rest
     ] refl
 
-abbrev FineAt : Request → At → Cells → Type 0
+abbrev pub FineAt : Request → At → Cells → Type 0
 FineAt r at cells = (k : List ℕ) → holds (span_of r).start (span_of r).end k ≡ true → IsNoRefusal (deed_of r at (content_at k cells))
 
 over-given : (r : Request) (at : At) (s e : List ℕ) (cells : Cells) → Ascends key_of cells → ((k : List ℕ) → holds s e k ≡ true → IsNoRefusal (deed_of r at (content_at k cells))) → IsGiven (ask_each (deed_of r at) (between key_of s e cells))
@@ -309,7 +309,7 @@ over-given r at s e cells asc fine =
 at-given : (r : Request) (at : At) (k : List ℕ) (cells : Cells) → ((q : List ℕ) → holds k (after k) q ≡ true → IsNoRefusal (deed_of r at (content_at q cells))) → IsGiven (ask_each (deed_of r at) ((k, content_at k cells) ∷ []))
 at-given r at k cells fine = each-given (deed_of r at) ((k, content_at k cells) ∷ []) (fine k (own_span k), tt)
 
-request-given : (r : Request) (at : At) (cells : Cells) → Ascends key_of cells → FineAt r at cells → IsGiven (ask_request r at cells)
+pub request-given : (r : Request) (at : At) (cells : Cells) → Ascends key_of cells → FineAt r at cells → IsGiven (ask_request r at cells)
 request-given (Get a) at cells asc fine = at-given (Get a) at a.key cells fine
 request-given (Scan a) at cells asc fine = over-given (Scan a) at a.start a.end cells asc fine
 request-given (ReverseScan a) at cells asc fine = over-given (ReverseScan a) at a.start a.end cells asc fine

@@ -8,7 +8,9 @@ pub mod KeyFacts
 pub mod Keys
 pub mod OnePiece
 pub mod Progress
+pub mod Reaches
 pub mod Refusing
+pub mod Replies
 pub mod Settled
 pub mod Stamps
 pub mod Swaps

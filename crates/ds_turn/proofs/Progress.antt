@@ -36,11 +36,11 @@ later-front : (i : Item) (xs ys : List Item) → AllLater i (xs ++ ys) → AllLa
 later-front i [] ys all = tt
 later-front i (x ∷ xs) ys all = (all.0, later-front i xs ys all.1)
 
-numbers-front : (xs ys : List Item) → NumbersInOrder (xs ++ ys) → NumbersInOrder xs
+pub numbers-front : (xs ys : List Item) → NumbersInOrder (xs ++ ys) → NumbersInOrder xs
 numbers-front [] ys all = tt
 numbers-front (x ∷ xs) ys all = (later-front x xs ys all.0, numbers-front xs ys all.1)
 
-one-more : (acted : List Item) (i : Item) (rest : List Item) → acted ++ i ∷ rest ≡ (acted ++ i ∷ []) ++ rest
+pub one-more : (acted : List Item) (i : Item) (rest : List Item) → acted ++ i ∷ rest ≡ (acted ++ i ∷ []) ++ rest
 one-more acted i rest = sym (append_assoc acted (i ∷ []) rest)
 
 -- an item in its place
@@ -50,7 +50,7 @@ pub record Placed (items : List Item) (i : Item) : Type 0 where
   pub back : List Item
   pub is : items ≡ front ++ i ∷ back
 
-placed : (items : List Item) (i : Item) → IsOneOf i items → Placed items i
+pub placed : (items : List Item) (i : Item) → IsOneOf i items → Placed items i
 placed [] i one = absurd one
 placed (x ∷ xs) i (inl same) = record { front = []; back = xs; is = ap (λ z. z ∷ xs) (sym same) }
 placed (x ∷ xs) i (inr more) = let r = placed xs i more in record { front = x ∷ r.front; back = r.back; is = ap (λ zs. x ∷ zs) r.is }

@@ -6,5 +6,6 @@ pub mod KeyIs
 pub mod Keys
 pub mod Partway
 pub mod Progress
+pub mod Replies
 pub mod Settling
 pub mod Turns
