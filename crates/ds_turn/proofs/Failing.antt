@@ -94,13 +94,13 @@ pub record StandsAt (k : List ℕ) (items xs : List Item) (i : Item) : Type 0 wh
   pub before : items_at k front ≡ xs
   pub here : speaks_of k i ≡ true
 
-at-true : (k : List ℕ) (i : Item) (is : List Item) → speaks_of k i ≡ true → items_at k (i ∷ is) ≡ i ∷ items_at k is
+pub at-true : (k : List ℕ) (i : Item) (is : List Item) → speaks_of k i ≡ true → items_at k (i ∷ is) ≡ i ∷ items_at k is
 at-true k i is h = ap (λ t. cond t (i ∷ items_at k is) (items_at k is)) h
 
-at-false : (k : List ℕ) (i : Item) (is : List Item) → speaks_of k i ≡ false → items_at k (i ∷ is) ≡ items_at k is
+pub at-false : (k : List ℕ) (i : Item) (is : List Item) → speaks_of k i ≡ false → items_at k (i ∷ is) ≡ items_at k is
 at-false k i is h = ap (λ t. cond t (i ∷ items_at k is) (items_at k is)) h
 
-first-item : (x y : Item) (xs ys : List Item) → ◌≡◌ {A = List Item} (x ∷ xs) (y ∷ ys) → (x ≡ y) × (xs ≡ ys)
+pub first-item : (x y : Item) (xs ys : List Item) → ◌≡◌ {A = List Item} (x ∷ xs) (y ∷ ys) → (x ≡ y) × (xs ≡ ys)
 first-item x y xs ys h = let a : x ≡ y = cc in let b : xs ≡ ys = cc in (a, b)
 
 pub stands_at : (k : List ℕ) (items xs : List Item) (i : Item) (ys : List Item) → items_at k items ≡ xs ++ i ∷ ys → StandsAt k items xs i

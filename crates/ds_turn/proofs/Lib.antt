@@ -2,6 +2,7 @@ pub mod Again
 pub mod Batches
 pub mod Courses
 pub mod Deeds
+pub mod Deliveries
 pub mod Examples
 pub mod Failing
 pub mod KeyFacts

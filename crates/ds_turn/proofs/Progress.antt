@@ -57,12 +57,12 @@ placed (x ∷ xs) i (inr more) = let r = placed xs i more in record { front = x 
 
 -- one touch of the batch
 
-again-still : (s : ℕ) (a : At) (j : Item) (acted : List Item) (vs : List Version) (c d : Content) → Partway s a acted vs c d → a.stamp.0 ≤ s → IsAgain acted j → after_item a j c ≡ c
+pub again-still : (s : ℕ) (a : At) (j : Item) (acted : List Item) (vs : List Version) (c d : Content) → Partway s a acted vs c d → a.stamp.0 ≤ s → IsAgain acted j → after_item a j c ≡ c
 again-still s a j acted vs c d m low again =
     let p = placed acted again.first again.one in
     part-after a j again.first c again.same ∙ (partway_again s a acted vs c d p.front again.first p.back m low p.is).1
 
-next-acts : (s : ℕ) (a : At) (j i : Item) (acted rest : List Item) (vs : List Version) (c d : Content) → Partway s a acted vs c d → a.stamp.0 ≤ s → NumbersInOrder (acted ++ i ∷ rest)
+pub next-acts : (s : ℕ) (a : At) (j i : Item) (acted rest : List Item) (vs : List Version) (c d : Content) → Partway s a acted vs c d → a.stamp.0 ≤ s → NumbersInOrder (acted ++ i ∷ rest)
     → ActsAs j i → IsNoRefusal (verdict a j c) → Partway s a (acted ++ i ∷ []) vs (after_item a j c) d
 next-acts s a j i acted rest vs c d m low numbers same fine =
     let next = partway_acts s a acted vs c d i m low (numbers-front (acted ++ i ∷ []) rest (subst NumbersInOrder (one-more acted i rest) numbers)) (subst IsNoRefusal (part-verdict a j i c same) fine) in

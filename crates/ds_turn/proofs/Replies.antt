@@ -197,7 +197,7 @@ joins_answer h i y got body asc all j = by (acts_where i.request)
 
 -- the whole batch
 
-rest-given : (ps : List WriteAt) (q : Reply) (m : Made) (out : Cells) (ws : List WriteAt) (rs : List Reply) → and_before ps (q ∷ []) m ≡ Gives out ws rs → (vs : List WriteAt) × (ts : List Reply) × (m ≡ Gives out vs ts) × (rs ≡ q ∷ ts)
+pub rest-given : (ps : List WriteAt) (q : Reply) (m : Made) (out : Cells) (ws : List WriteAt) (rs : List Reply) → and_before ps (q ∷ []) m ≡ Gives out ws rs → (vs : List WriteAt) × (ts : List Reply) × (m ≡ Gives out vs ts) × (rs ≡ q ∷ ts)
 rest-given ps q (Fails f) out ws rs d = cc
 rest-given ps q (Gives x vs ts) out ws rs d = let same : x ≡ out = cc in let all : rs ≡ q ∷ ts = cc in (vs, ts, ap (λ z. Gives z vs ts) same, all)
 

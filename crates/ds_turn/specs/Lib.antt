@@ -1,6 +1,7 @@
 pub mod Alone
 pub mod Batches
 pub mod Course
+pub mod Deliveries
 pub mod Failing
 pub mod KeyIs
 pub mod Keys

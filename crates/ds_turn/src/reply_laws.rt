@@ -1,4 +1,5 @@
 //! The replies of a batch's cuts, and those of the batch asked at once.
+ghost use Rattle.ds_turn.specs.Deliveries.{PieceReplies, RepliesInTurn};
 ghost use Rattle.ds_turn.specs.Replies.{AnswersInTurn, CutAnswers, GatheredAsks, JoinsAnswer};
 
 /// Does nothing. Its clause: an item that is not refused at a key in the middle of a batch answers there
@@ -16,6 +17,18 @@ pub fn cut_answers()
 /// whole request, of any kind.
 pub fn joins_answer()
     ensures { JoinsAnswer }
+{}
+
+/// Does nothing. Its clause: each reply of a piece that a range served, for the first time or again, is
+/// that of the item's turn in the batch asked at once.
+pub fn piece_replies()
+    ensures { PieceReplies }
+{}
+
+/// Does nothing. Its clause: where each accepted reply is that of its turn, so are those gathered at one
+/// position.
+pub fn replies_in_turn()
+    ensures { RepliesInTurn }
 {}
 
 /// Does nothing. Its clause: replies gathered of cuts that each answer in their turn are those of the

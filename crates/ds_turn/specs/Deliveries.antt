@@ -1,0 +1,44 @@
+-- What a delivered piece makes of a batch under way: how far the batch is then, and what its replies say.
+use Rattle.std.specs.Prelude.{◌≡◌, ℕ, ◌≤◌, ◌⊎◌, List, [], ◌∷◌, ◌++◌, map}
+use Rattle.ds_base.specs.Ordered.{Ascends}
+use Rattle.ds_kind.specs.declared.batch.Item.{Item}
+use Rattle.ds_kind.specs.declared.reply.Reply.{Reply}
+use Rattle.ds_cell.specs.declared.entry.Version.{Version}
+use Rattle.ds_cell.specs.Ask.{Cells, key_of, content_at}
+use Rattle.ds_cell.specs.Content.{Content, Rises}
+use Rattle.ds_cell.specs.Store.{WriteAt}
+use Rattle.ds_rule.specs.Asking.{Asking, Gives, Fails, ask_all, at_of, failure_of}
+use Rattle.ds_rule.specs.Journal.{Accepted, pairs}
+use Rattle.ds_rule.specs.Pieces.{Each, IsCut, position_of}
+use Rattle.ds_rule.specs.Turn.{items_at}
+use Rattle.ds_turn.specs.Course.{ByBatch}
+use Rattle.ds_turn.specs.Partway.{NumbersInOrder}
+use Rattle.ds_turn.specs.Progress.{GoesTo, BatchPartway}
+use Rattle.ds_turn.specs.Replies.{Answers, AllInTurn}
+
+-- a range that holds x serves these items of the batch: x is what the world holds where they act, and at each key they
+-- act in their turn, or again
+pub record Serves (q : Asking) (acted rest after : List ℕ → List Item) (world : List ℕ → Content) (js : List Item) (x : Cells) : Type 0 where
+  pub ascends : Ascends key_of x
+  pub cuts : Each (IsCut q.items) js
+  pub there : (k : List ℕ) → (items_at k js ≡ []) ⊎ (content_at k x ≡ world k)
+  pub goes : (k : List ℕ) → GoesTo (map ByBatch (items_at k js)) (acted k) (rest k) (after k)
+
+-- a reply is that of the item's turn: asked of what the batch's items before leave of the store, the cut is answered so
+abbrev pub IsTurnReply : Asking → Cells → Accepted → Type 0
+IsTurnReply q cells a =
+    (front : List Item) (i : Item) (back : List Item) (y : Cells) (us : List WriteAt) (ts : List Reply) → q.items ≡ front ++ i ∷ back → i.pos ≡ a.item.pos
+    → ask_all q.head front cells ≡ Gives y us ts → Answers q.head a.item y a.reply.body
+
+-- so are the replies of a piece that was served
+abbrev pub PieceReplies : Type 0
+PieceReplies =
+    (s : ℕ) (q : Asking) (acted after : List ℕ → List Item) (vs : List ℕ → List Version) (world : List ℕ → Content) (cells : Cells)
+    → (b : BatchPartway s q acted vs world cells) → q.head.at.0 ≤ s → Rises position_of q.items → NumbersInOrder q.items
+    → (js : List Item) (x out : Cells) (ws : List WriteAt) (rs : List Reply) → Serves q acted b.rest after world js x → ask_all q.head js x ≡ Gives out ws rs
+    → Each (IsTurnReply q cells) (pairs q.head js rs)
+
+-- and where all that was accepted was answered so, it answers as the batch's turns want it
+abbrev pub RepliesInTurn : Type 0
+RepliesInTurn =
+    (q : Asking) (cells : Cells) (got : List Accepted) → Each (IsTurnReply q cells) got → AllInTurn q.head q.items cells got
