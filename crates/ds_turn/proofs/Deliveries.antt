@@ -1,33 +1,41 @@
 -- What a delivered piece makes of a batch under way.
 use Rattle.std.proofs.Common.{◌≡◌, ℕ, ◌<◌, ◌≤◌, ◌⊎◌, inl, inr, Bool, true, false, cond, ◌==◌, List, [], ◌∷◌, ◌++◌, map, None, refl, sym, ap, ◌∙◌, subst, arith}
 use Rattle.std.proofs.lemmas.Bool.{eqb-true}
+use Rattle.std.proofs.lemmas.List.{append-nil}
 use Rattle.ds_base.specs.Order.{key_lt}
 use Rattle.ds_base.specs.Ordered.{Ascends}
 use Rattle.ds_kind.specs.declared.batch.Item.{Item}
+use Rattle.ds_kind.specs.declared.reply.Failure.{Failure}
 use Rattle.ds_kind.specs.declared.reply.Reply.{Reply}
 use Rattle.ds_cell.specs.declared.entry.At.{At}
 use Rattle.ds_cell.specs.declared.entry.Version.{Version}
-use Rattle.ds_cell.specs.Ask.{Cells, key_of, Gave, content_at}
+use Rattle.ds_cell.specs.declared.verdict.ActFault.{ActFault}
+use Rattle.ds_cell.specs.declared.verdict.Verdict.TheVariants.{Refuse}
+use Rattle.ds_cell.specs.Ask.{Cells, key_of, Asked, Failed, Gave, content_at}
 use Rattle.ds_cell.specs.Content.{Content, AllAbove, Rises}
+use Rattle.ds_cell.specs.Deed.{IsBitOf}
 use Rattle.ds_cell.specs.Replies.{body_of}
 use Rattle.ds_cell.specs.RepeatProofs.{kept}
 use Rattle.ds_cell.specs.Requests.{ask_request}
 use Rattle.ds_cell.specs.Store.{WriteAt, write_all, under_number}
-use Rattle.ds_rule.specs.Asking.{Asking, Gives, and_then, made_by, ask_all, at_of}
+use Rattle.ds_rule.specs.Asking.{Asking, Gives, Fails, and_then, made_by, ask_all, at_of, failure_of}
 use Rattle.ds_rule.specs.Gathered.{begins_at, put_by_start, by_start, is_at, at_position}
 use Rattle.ds_rule.specs.Journal.{Accepted, pairs}
 use Rattle.ds_rule.specs.Pieces.{Each, IsCut, position_of}
-use Rattle.ds_rule.specs.Turn.{IsNoRefusal, speaks_of, items_at, verdict, after_item, after_items}
-use Rattle.ds_turn.specs.Batches.{ActsAs}
-use Rattle.ds_turn.specs.Course.{Course, ByBatch}
-use Rattle.ds_turn.specs.Deliveries.{Serves, IsTurnReply, PieceReplies, RepliesInTurn}
+use Rattle.ds_rule.specs.Turn.{TurnFails, IsNoRefusal, speaks_of, items_at, verdict, after_item, after_items, turn_of}
+use Rattle.ds_turn.specs.Alone.{IsTooOld}
+use Rattle.ds_turn.specs.Batches.{ActsAs, CourseGives}
+use Rattle.ds_turn.specs.Course.{Course, ByBatch, course_after, foreign_writes, with_versions}
+use Rattle.ds_turn.specs.Deliveries.{Serves, Leaves, IsTurnReply, PieceReplies, RepliesInTurn, PieceGoes, FailsInTurn, PieceFails}
 use Rattle.ds_turn.specs.Partway.{NumbersInOrder, Partway}
 use Rattle.ds_turn.specs.Progress.{IsAgain, GoesTo, BatchPartway}
 use Rattle.ds_turn.specs.Replies.{ComesAt, InTurn, Answers}
+use Rattle.ds_turn.proofs.Again.{partway_again}
 use Rattle.ds_turn.proofs.Batches.{part-verdict, rise-held}
 use Rattle.ds_turn.proofs.Failing.{at-true, at-false, first-item, stands_at}
-use Rattle.ds_turn.proofs.Keys.{IsDone, request-done, gives_at_keys, made-parts}
-use Rattle.ds_turn.proofs.Progress.{again-still, next-acts, one-more}
+use Rattle.ds_turn.proofs.Keys.{IsDone, request-done, request-refused, before-fails, gives_at_keys, made-parts}
+use Rattle.ds_turn.proofs.Progress.{again-still, next-acts, one-more, placed, goes-rest, put-there, progress_kept}
+use Rattle.ds_turn.proofs.Refusing.{acts-turn, acts-course, acts-writes, acts-foreign, partway_refused}
 use Rattle.ds_turn.proofs.Replies.{answers_in_turn, cut_answers, rest-given}
 
 -- a list whose positions rise is split in one way at a position
@@ -169,20 +177,121 @@ replies-from s q vs cells (j ∷ js) x out ws rs low rises numbers asc ascends a
       replies-from s q vs cells js (write_all at parts.1 x) out rest.0 rest.1 low rises numbers done.0 ascends (rest-stand s q vs cells j js x (write_all at parts.1 x) low numbers done.1 all) rest.2,
     )
 
+pub piece_goes : PieceGoes
+piece_goes s q acted after vs world now cells b low numbers js x out ws rs serves e leaves = record {
+  ascends = b.ascends;
+  at = λ k. (arrives k).0;
+  rest = λ k. (arrives k).1;
+  front = λ k. (arrives k).2;
+}
+  where
+    a : At
+    a = at_of q.head 0
+
+    Arrives : List ℕ → Type 0
+    Arrives k = Partway s a (after k) (vs k) (now k) (content_at k cells) × (more : List Item) × (items_at k q.items ≡ after k ++ more)
+
+    still : (k : List ℕ) → items_at k js ≡ [] → now k ≡ world k → Arrives k
+    still k none same =
+        let goes : acted k ≡ after k = subst (λ zs. GoesTo (map ByBatch zs) (acted k) (b.rest k) (after k)) none (serves.goes k) in (
+          subst (λ zs. Partway s a zs (vs k) (now k) (content_at k cells)) goes (subst (λ c. Partway s a (acted k) (vs k) c (content_at k cells)) (sym same) (b.at k)),
+          b.rest k,
+          b.front k ∙ ap (λ zs. zs ++ b.rest k) goes,
+        )
+
+    served : (k : List ℕ) → content_at k x ≡ world k → now k ≡ content_at k out → Arrives k
+    served k there left =
+        let keys = (gives_at_keys q.head js x out ws rs serves.ascends e).1 k in
+        let zs = items_at k js in
+        let numbered : NumbersInOrder (acted k ++ b.rest k) = subst NumbersInOrder (b.front k) (rise-held k q.items numbers) in
+        let gives : CourseGives a (map ByBatch zs) (world k) = record { bits = keys.0.bits; writes = keys.0.writes; gives = acts-turn a zs (world k) ∙ ap (turn_of a zs) (sym there) ∙ keys.0.gives } in
+        let moved = progress_kept s a (map ByBatch zs) (acted k) (b.rest k) (after k) (vs k) (world k) (content_at k cells) (b.at k) low (acts-foreign s zs) numbered (serves.goes k) gives in
+        let there-now : course_after a (map ByBatch zs) (world k) ≡ now k = acts-course a zs (world k) ∙ ap (after_items a zs) (sym there) ∙ sym keys.1 ∙ sym left in
+        let rest = goes-rest (map ByBatch zs) (acted k) (b.rest k) (after k) (serves.goes k) in (
+          subst (λ us. Partway s a (after k) us (now k) (content_at k cells)) (ap (λ us. vs k ++ us) (acts-writes zs) ∙ append-nil (vs k))
+              (subst (λ c. Partway s a (after k) (vs k ++ foreign_writes (map ByBatch zs)) c (content_at k cells)) there-now moved),
+          rest.0,
+          b.front k ∙ rest.1,
+        )
+
+    arrives : (k : List ℕ) → Arrives k
+    arrives k = elim (leaves k) [
+      | inl none ↦ still k none.0 none.1
+      | inr there ↦ served k there.0 there.1
+    ]
+
+-- a failure
+
+refused-now : (s : ℕ) (a : At) (items : List Item) (j : Item) (js : List Item) (vs : List Version) (c d : Content) (f : ActFault) → a.stamp.0 ≤ s → StandsNow s a items (j ∷ js) vs c d → verdict a j c ≡ Refuse f
+    → ((IsTooOld f → ⊥) → turn_of a items d ≡ TurnFails j.pos f) × (IsTooOld f → turn_of a items (with_versions vs d) ≡ TurnFails j.pos f)
+refused-now s a items j js vs c d f low h refused = by h.acted h.rest h.partway h.all (comes-of j (map ByBatch js) h.acted h.rest h.after h.goes)
+  where
+    Fails-so : Type 0
+    Fails-so = ((IsTooOld f → ⊥) → turn_of a items d ≡ TurnFails j.pos f) × (IsTooOld f → turn_of a items (with_versions vs d) ≡ TurnFails j.pos f)
+
+    not-again : (acted : List Item) → Partway s a acted vs c d → IsAgain acted j → ⊥
+    not-again acted m again =
+        let p = placed acted again.first again.one in
+        let bit = (partway_again s a acted vs c d p.front again.first p.back m low p.is).0 in
+        subst (λ v. IsBitOf v bit.0) (sym (part-verdict a j again.first c again.same) ∙ refused) bit.2
+
+    by : (acted rest : List Item) → Partway s a acted vs c d → items ≡ acted ++ rest → ComesAt acted rest j → Fails-so
+    by acted [] m all again = absurd (not-again acted m again)
+    by acted (i ∷ rest) m all (inl again) = absurd (not-again acted m again)
+    by acted (i ∷ rest) m all (inr next) =
+        let parts = partway_refused s a acted vs c d i rest f m low (sym (part-verdict a j i c next) ∙ refused) in (
+          λ young. ap (λ zs. turn_of a zs d) all ∙ parts.0 young ∙ ap (λ n. TurnFails n f) (sym next.position),
+          λ old. ap (λ zs. turn_of a zs (with_versions vs d)) all ∙ parts.1 old ∙ ap (λ n. TurnFails n f) (sym next.position),
+        )
+
+failed-failure : (f g : Failure) → Fails f ≡ Fails g → g ≡ f
+failed-failure f g h = cc
+
+fails-from : (s : ℕ) (q : Asking) (vs : List ℕ → List Version) (cells : Cells) (js : List Item) (x : Cells) (failure : Failure) → q.head.at.0 ≤ s → NumbersInOrder q.items → Ascends key_of x → Ascends key_of cells
+    → StandsAll s q vs cells js x → ask_all q.head js x ≡ Fails failure → FailsInTurn q vs cells failure
+fails-from s q vs cells [] x failure low numbers asc ascends all e = cc
+fails-from s q vs cells (j ∷ js) x failure low numbers asc ascends all e =
+    by (λ next up stand rest. fails-from s q vs cells js next failure low numbers up ascends stand rest) (ask_request j.request (at_of q.head j.seq.0) x) refl
+  where
+    by : ((next : Cells) → Ascends key_of next → StandsAll s q vs cells js next → ask_all q.head js next ≡ Fails failure → FailsInTurn q vs cells failure) → (a : Asked) → ask_request j.request (at_of q.head j.seq.0) x ≡ a → FailsInTurn q vs cells failure
+    by again (Failed k f) is =
+        let there = request-refused j.request (at_of q.head j.seq.0) x k f asc is in
+        let parts = refused-now s (at_of q.head 0) (items_at k q.items) j (items_at k js) (vs k) (content_at k x) (content_at k cells) f low (first-stands s q vs cells j js x all k there.0) there.1 in
+        record {
+          key = k;
+          position = j.pos;
+          fault = f;
+          says = failed-failure (failure_of j.pos k f) failure (sym (ap (λ a. and_then (made_by q.head j a x) (ask_all q.head js)) is) ∙ e);
+          young = parts.0;
+          old = λ t. ap (turn_of (at_of q.head 0) (items_at k q.items)) (put-there k (with_versions (vs k)) cells ascends) ∙ parts.1 t;
+        }
+    by again (Gave bs us) is =
+        let next = write_all (at_of q.head j.seq.0) us x in
+        let done = request-done j.request (at_of q.head j.seq.0) x bs us asc is in
+        again next done.0 (rest-stand s q vs cells j js x next low numbers done.1 all)
+        (before-fails (under_number (at_of q.head j.seq.0) us) (record { body = body_of j.request bs; resume = None } ∷ []) (ask_all q.head js next) failure (sym (ap (λ a. and_then (made_by q.head j a x) (ask_all q.head js)) is) ∙ e))
+
+stands-first : (s : ℕ) (q : Asking) (acted after : List ℕ → List Item) (vs : List ℕ → List Version) (world : List ℕ → Content) (cells : Cells) (b : BatchPartway s q acted vs world cells) (js : List Item) (x : Cells)
+    → Serves q acted b.rest after world js x → StandsAll s q vs cells js x
+stands-first s q acted after vs world cells b js x serves k = elim (serves.there k) [
+  | inl none ↦ inl none
+  | inr same ↦ inr (record {
+    acted = acted k;
+    rest = b.rest k;
+    after = after k;
+    partway = subst (λ c. Partway s (at_of q.head 0) (acted k) (vs k) c (content_at k cells)) (sym same) (b.at k);
+    all = b.front k;
+    goes = serves.goes k;
+  })
+]
+
+pub piece_fails : PieceFails
+piece_fails s q acted after vs world cells b low numbers js x failure serves e =
+    fails-from s q vs cells js x failure low numbers serves.ascends b.ascends (stands-first s q acted after vs world cells b js x serves) e
+
 pub piece_replies : PieceReplies
 piece_replies s q acted after vs world cells b low rises numbers js x out ws rs serves e =
-    replies-from s q vs cells js x out ws rs low rises numbers serves.ascends b.ascends
-    (λ k. elim (serves.there k) [
-      | inl none ↦ inl none
-      | inr same ↦ inr (record {
-        acted = acted k;
-        rest = b.rest k;
-        after = after k;
-        partway = subst (λ c. Partway s (at_of q.head 0) (acted k) (vs k) c (content_at k cells)) (sym same) (b.at k);
-        all = b.front k;
-        goes = serves.goes k;
-      })
-    ]) e
+    replies-from s q vs cells js x out ws rs low rises numbers serves.ascends b.ascends (stands-first s q acted after vs world cells b js x serves) e
 
 -- what holds of all holds of those at a position, in any order
 

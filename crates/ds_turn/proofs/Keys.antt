@@ -480,7 +480,7 @@ each-refused d k f (y ∷ ys) asc h = elim (one-refused y.0 k (d y.1) (ask_each 
   | inr later ↦ let r = each-refused d k f ys asc.1 later in (r.0, r.1, further y r.0 ys asc.0 r.2, r.3)
 ]
 
-abbrev IsRefused : Request → At → Cells → List ℕ → ActFault → Type 0
+abbrev pub IsRefused : Request → At → Cells → List ℕ → ActFault → Type 0
 IsRefused r at cells k f = (holds (span_of r).start (span_of r).end k ≡ true) × (deed_of r at (content_at k cells) ≡ Refuse f)
 
 abbrev RefusedOn : Request → At → Cells → List ℕ → List ℕ → List ℕ → ActFault → Type 0
@@ -501,7 +501,7 @@ at-refused r at k cells q f h = elim (one-refused k q (deed_of r at (content_at 
     gave-failed : {G : Type 0} (q : List ℕ) (f : ActFault) → Gave [] [] ≡ Failed q f → G
     gave-failed q f h = cc
 
-request-refused : (r : Request) (at : At) (cells : Cells) (k : List ℕ) (f : ActFault) → Ascends key_of cells → ask_request r at cells ≡ Failed k f → IsRefused r at cells k f
+pub request-refused : (r : Request) (at : At) (cells : Cells) (k : List ℕ) (f : ActFault) → Ascends key_of cells → ask_request r at cells ≡ Failed k f → IsRefused r at cells k f
 request-refused (Get a) at cells k f asc h = at-refused (Get a) at a.key cells k f h
 request-refused (Scan a) at cells k f asc h = over-refused (Scan a) at a.start a.end cells k f asc h
 request-refused (ReverseScan a) at cells k f asc h = over-refused (ReverseScan a) at a.start a.end cells k f asc h
@@ -518,7 +518,7 @@ request-refused (ResolveIntentRange a) at cells k f asc h = over-refused (Resolv
 request-refused (AdminSplit a) at cells k f asc h = at-refused (AdminSplit a) at a.key cells k f h
 request-refused (AdminTransferLease a) at cells k f asc h = at-refused (AdminTransferLease a) at a.key cells k f h
 
-before-fails : (ws : List WriteAt) (rs : List Reply) (m : Made) (f : Failure) → and_before ws rs m ≡ Fails f → m ≡ Fails f
+pub before-fails : (ws : List WriteAt) (rs : List Reply) (m : Made) (f : Failure) → and_before ws rs m ≡ Fails f → m ≡ Fails f
 before-fails ws rs (Fails g) f h = h
 before-fails ws rs (Gives out vs ts) f h = cc
 

@@ -132,7 +132,7 @@ batch_begins s q world cells asc keys = record {
   front = λ k. refl;
 }
 
-goes-rest : (bs : Course) (acted rest after : List Item) → GoesTo bs acted rest after → (more : List Item) × (acted ++ rest ≡ after ++ more)
+pub goes-rest : (bs : Course) (acted rest after : List Item) → GoesTo bs acted rest after → (more : List Item) × (acted ++ rest ≡ after ++ more)
 goes-rest [] acted rest after e = (rest, ap (λ zs. zs ++ rest) e)
 goes-rest (ByOther v ∷ bs) acted rest after h = goes-rest bs acted rest after h
 goes-rest (ByBatch j ∷ bs) acted [] after h = goes-rest bs acted [] after h.1
@@ -154,7 +154,7 @@ batch_ends s q vs world cells b =
     let keys = gives_at_keys q.head q.items cells given.0 given.1 given.2 b.ascends given.3 in
     (given.0, given.1, given.2, given.3, keys.0, λ k. subst (λ d. KeyIs s (world k) (with_versions (vs k) d)) (sym (keys.1 k).1) (b.at k).key)
 
-put-there : (k : List ℕ) (f : Content → Content) (cells : Cells) → Ascends key_of cells → content_at k (put_cell k f cells) ≡ f (content_at k cells)
+pub put-there : (k : List ℕ) (f : Content → Content) (cells : Cells) → Ascends key_of cells → content_at k (put_cell k f cells) ≡ f (content_at k cells)
 put-there k f cells asc = put-at k k f cells asc ∙ ap (λ t. cond t (f (content_at k cells)) (content_at k cells)) (eq_itself k)
 
 pub batch_refused : BatchRefused

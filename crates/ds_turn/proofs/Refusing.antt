@@ -6,7 +6,7 @@ use Rattle.ds_cell.specs.declared.verdict.Verdict.TheVariants.{Refuse}
 use Rattle.ds_cell.specs.Content.{Content}
 use Rattle.ds_cell.specs.Seen.{own}
 use Rattle.ds_rule.specs.Turn.{and_turn, asks_as, verdict, after_item, after_items, turn_of}
-use Rattle.ds_turn.specs.Course.{ByBatch, made_after, made_turn, batch_items, foreign_writes, with_versions, AllForeignAbove}
+use Rattle.ds_turn.specs.Course.{ByBatch, course_turn, course_after, made_after, made_turn, batch_items, foreign_writes, with_versions, AllForeignAbove}
 use Rattle.ds_turn.specs.Partway.{PartwayRefused}
 use Rattle.ds_turn.proofs.Again.{stays_items}
 use Rattle.ds_turn.proofs.Deeds.{old_deed}
@@ -28,13 +28,22 @@ acts-items : (is : List Item) → batch_items (map ByBatch is) ≡ is
 acts-items [] = refl
 acts-items (i ∷ is) = ap (λ zs. i ∷ zs) (acts-items is)
 
-acts-writes : (is : List Item) → foreign_writes (map ByBatch is) ≡ []
+pub acts-writes : (is : List Item) → foreign_writes (map ByBatch is) ≡ []
 acts-writes [] = refl
 acts-writes (i ∷ is) = acts-writes is
 
-acts-foreign : (s : ℕ) (is : List Item) → AllForeignAbove s (map ByBatch is)
+pub acts-foreign : (s : ℕ) (is : List Item) → AllForeignAbove s (map ByBatch is)
 acts-foreign s [] = tt
 acts-foreign s (i ∷ is) = acts-foreign s is
+
+-- in the world too
+pub acts-turn : (a : At) (is : List Item) (c : Content) → course_turn a (map ByBatch is) c ≡ turn_of a is c
+acts-turn a [] c = refl
+acts-turn a (i ∷ is) c = ap (and_turn i (verdict a i c)) (acts-turn a is (after_item a i c))
+
+pub acts-course : (a : At) (is : List Item) (c : Content) → course_after a (map ByBatch is) c ≡ after_items a is c
+acts-course a [] c = refl
+acts-course a (i ∷ is) c = acts-course a is (after_item a i c)
 
 pub partway_refused : PartwayRefused
 partway_refused s a acted vs c d i later f m low refused =

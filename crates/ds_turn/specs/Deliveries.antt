@@ -2,16 +2,19 @@
 use Rattle.std.specs.Prelude.{◌≡◌, ℕ, ◌≤◌, ◌⊎◌, List, [], ◌∷◌, ◌++◌, map}
 use Rattle.ds_base.specs.Ordered.{Ascends}
 use Rattle.ds_kind.specs.declared.batch.Item.{Item}
+use Rattle.ds_kind.specs.declared.reply.Failure.{Failure}
 use Rattle.ds_kind.specs.declared.reply.Reply.{Reply}
 use Rattle.ds_cell.specs.declared.entry.Version.{Version}
+use Rattle.ds_cell.specs.declared.verdict.ActFault.{ActFault}
 use Rattle.ds_cell.specs.Ask.{Cells, key_of, content_at}
 use Rattle.ds_cell.specs.Content.{Content, Rises}
-use Rattle.ds_cell.specs.Store.{WriteAt}
+use Rattle.ds_cell.specs.Store.{WriteAt, put_cell}
 use Rattle.ds_rule.specs.Asking.{Asking, Gives, Fails, ask_all, at_of, failure_of}
 use Rattle.ds_rule.specs.Journal.{Accepted, pairs}
 use Rattle.ds_rule.specs.Pieces.{Each, IsCut, position_of}
-use Rattle.ds_rule.specs.Turn.{items_at}
-use Rattle.ds_turn.specs.Course.{ByBatch}
+use Rattle.ds_rule.specs.Turn.{items_at, FailsAt}
+use Rattle.ds_turn.specs.Alone.{IsTooOld}
+use Rattle.ds_turn.specs.Course.{ByBatch, with_versions}
 use Rattle.ds_turn.specs.Partway.{NumbersInOrder}
 use Rattle.ds_turn.specs.Progress.{GoesTo, BatchPartway}
 use Rattle.ds_turn.specs.Replies.{Answers, AllInTurn}
@@ -42,3 +45,33 @@ PieceReplies =
 abbrev pub RepliesInTurn : Type 0
 RepliesInTurn =
     (q : Asking) (cells : Cells) (got : List Accepted) → Each (IsTurnReply q cells) got → AllInTurn q.head q.items cells got
+
+-- outside what the piece's items hold all stays; where they act, the range holds afterwards what they left
+abbrev pub Leaves : List Item → Cells → Cells → (List ℕ → Content) → (List ℕ → Content) → Type 0
+Leaves js x out world now =
+    (k : List ℕ) → ((items_at k js ≡ []) × (now k ≡ world k)) ⊎ ((content_at k x ≡ world k) × (now k ≡ content_at k out))
+
+-- a piece of a transaction that was served, for the first time or again, brings the batch as far as its items reach
+abbrev pub PieceGoes : Type 0
+PieceGoes =
+    (s : ℕ) (q : Asking) (acted after : List ℕ → List Item) (vs : List ℕ → List Version) (world now : List ℕ → Content) (cells : Cells)
+    → (b : BatchPartway s q acted vs world cells) → q.head.at.0 ≤ s → NumbersInOrder q.items
+    → (js : List Item) (x out : Cells) (ws : List WriteAt) (rs : List Reply) → Serves q acted b.rest after world js x → ask_all q.head js x ≡ Gives out ws rs
+    → Leaves js x out world now → BatchPartway s q after vs now cells
+
+-- a piece failed so because the batch's turn at a key does; as too old, where the foreign writes that came there since
+-- the batch began are made first
+pub record FailsInTurn (q : Asking) (vs : List ℕ → List Version) (cells : Cells) (failure : Failure) : Type 0 where
+  pub key : List ℕ
+  pub position : ℕ
+  pub fault : ActFault
+  pub says : failure ≡ failure_of position key fault
+  pub young : (IsTooOld fault → ⊥) → FailsAt q key cells position fault
+  pub old : IsTooOld fault → FailsAt q key (put_cell key (with_versions (vs key)) cells) position fault
+
+abbrev pub PieceFails : Type 0
+PieceFails =
+    (s : ℕ) (q : Asking) (acted after : List ℕ → List Item) (vs : List ℕ → List Version) (world : List ℕ → Content) (cells : Cells)
+    → (b : BatchPartway s q acted vs world cells) → q.head.at.0 ≤ s → NumbersInOrder q.items
+    → (js : List Item) (x : Cells) (failure : Failure) → Serves q acted b.rest after world js x → ask_all q.head js x ≡ Fails failure
+    → FailsInTurn q vs cells failure

@@ -1,4 +1,5 @@
 //! How far a batch got, at one key and at all keys, with losses and late copies.
+ghost use Rattle.ds_turn.specs.Deliveries.{PieceFails, PieceGoes};
 ghost use Rattle.ds_turn.specs.Progress.{BatchBegins, BatchEnds, BatchGoes, BatchRefused, CutsGoAgain, CutsGoOn, ProgressKept};
 
 /// Does nothing. Its clause: where the batch's items act in their order at a key, any of those that
@@ -28,6 +29,19 @@ pub fn batch_begins()
 /// items acted, as long as none was refused.
 pub fn batch_goes()
     ensures { BatchGoes }
+{}
+
+/// Does nothing. Its clause: a piece of a transaction that a range served, for the first time or again,
+/// brings the batch as far as the piece's items reach, and no further.
+pub fn piece_goes()
+    ensures { PieceGoes }
+{}
+
+/// Does nothing. Its clause: a piece failed because the batch's turn at a key fails with that fault at
+/// that position; as too old, where the foreign writes that came to the key since the batch began are
+/// made first.
+pub fn piece_fails()
+    ensures { PieceFails }
 {}
 
 /// Does nothing. Its clause: a batch whose items all acted at each key, in whatever pieces and however
