@@ -1,5 +1,5 @@
 -- Items asked again, and the middle of a batch.
-use Rattle.std.proofs.Common.{◌≡◌, ℕ, ◌≤◌, ◌<◌, true, false, List, [], ◌∷◌, ◌++◌, Option, Some, None, refl, sym, ap, ◌∙◌, subst, append_assoc, arith}
+use Rattle.std.proofs.Common.{◌≡◌, ℕ, ◌≤◌, ◌<◌, true, false, List, [], ◌∷◌, ◌++◌, Option, Some, None, refl, sym, ap, ◌∙◌, subst, arith}
 use Rattle.ds_base.specs.declared.value.Stamp.{Stamp}
 use Rattle.ds_base.specs.declared.value.Value.{Value}
 use Rattle.ds_base.proofs.TestFacts.{never as never_so}
@@ -12,7 +12,6 @@ use Rattle.ds_cell.specs.declared.entry.Written.{Written}
 use Rattle.ds_cell.specs.declared.verdict.Verdict.{Verdict}
 use Rattle.ds_cell.specs.declared.verdict.Verdict.TheVariants.{Keep, Put, Refuse}
 use Rattle.ds_cell.specs.declared.verdict.Bit.{Bit}
-use Rattle.ds_cell.specs.declared.verdict.ActFault.{ActFault}
 use Rattle.ds_cell.specs.Content.{Content, Rises, stamp_of}
 use Rattle.ds_cell.specs.Change.{after_foreign}
 use Rattle.ds_cell.specs.Deed.{Sight, deed, decide, guarded, sight, content_after, IsBitOf}
@@ -23,9 +22,9 @@ use Rattle.ds_cell.specs.Requests.{deed_of}
 use Rattle.ds_cell.proofs.LaterFacts.{later_itself, later_again, later_write, later_foreign}
 use Rattle.ds_cell.specs.RequestProofs.{repeats_of}
 use Rattle.ds_rule.specs.Turn.{IsNoRefusal, TurnGives, and_turn, asks_as, verdict, after_item, after_items, turn_of}
-use Rattle.ds_turn.specs.Course.{Course, ByBatch, ByOther, course_after, batch_items, with_versions, AllForeignAbove}
+use Rattle.ds_turn.specs.Course.{AllForeignAbove, ByBatch, ByOther, Course, NoneRefused, batch_items, course_after, with_versions}
 use Rattle.ds_turn.specs.KeyIs.{KeyIs}
-use Rattle.ds_turn.specs.Partway.{AllLater, NumbersInOrder, AskedAgain, NoneRefused, PartwayBegins, PartwayForeign, PartwayActs, PartwayAgain}
+use Rattle.ds_turn.specs.Partway.{AllLater, AskedAgain, NumbersInOrder, PartwayActs, PartwayAgain, PartwayBegins, PartwayForeign}
 use Rattle.ds_turn.proofs.Deeds.{later_alike}
 use Rattle.ds_turn.proofs.Courses.{and_turn-fine, eased_more, eased_fine, after_more, more_version, stays_key, Stays}
 use Rattle.ds_turn.proofs.KeyFacts.{above_more, key_verdict, key_item, key_foreign, more_alike}

@@ -1,5 +1,5 @@
 -- Courses at one key: beside foreign writes, and alone.
-use Rattle.std.proofs.Common.{◌≡◌, ℕ, ◌≤◌, ◌<◌, List, [], ◌∷◌, ◌++◌, ◌⊎◌, inl, inr, refl, sym, ap, ◌∙◌, subst, append_assoc}
+use Rattle.std.proofs.Common.{◌≡◌, ℕ, ◌≤◌, List, [], ◌∷◌, ◌++◌, ◌⊎◌, inl, inr, refl, sym, ap, ◌∙◌, subst, append_assoc}
 use Rattle.std.proofs.lemmas.List.{append-nil}
 use Rattle.ds_kind.specs.declared.batch.Item.{Item}
 use Rattle.ds_cell.specs.declared.entry.At.{At}
@@ -15,12 +15,12 @@ use Rattle.ds_cell.specs.Change.{after_foreign}
 use Rattle.ds_cell.specs.Deed.{content_after}
 use Rattle.ds_cell.specs.Store.{with_version}
 use Rattle.ds_rule.specs.Turn.{IsNoRefusal, asks_as, verdict, after_item, Turn, TurnFails, TurnGives, and_turn, after_items, turn_of}
-use Rattle.ds_turn.specs.Course.{Course, ByBatch, ByOther, course_after, made_after, made_turn, batch_items, foreign_writes, with_versions, AllForeignAbove}
-use Rattle.ds_turn.specs.KeyIs.{KeyIs}
-use Rattle.ds_turn.specs.Alone.{SameCourse, ActsAlone, FailsAlone, IsTooOld}
 use Rattle.ds_turn.proofs.Deeds.{IsEased, eased_deed}
 use Rattle.ds_turn.proofs.KeyFacts.{above_more, fold_more, key_verdict, key_item, key_foreign, more_alike, more_old}
 use Rattle.ds_cell.proofs.RisingFacts.{rises_fold}
+use Rattle.ds_turn.specs.Alone.{ActsAlone, FailsAlone, IsTooOld, SameCourse}
+use Rattle.ds_turn.specs.Course.{AllForeignAbove, ByBatch, ByOther, Course, batch_items, course_after, foreign_writes, made_after, made_turn, with_versions}
+use Rattle.ds_turn.specs.KeyIs.{KeyIs}
 
 -- the world beside the store that makes each foreign write at once
 

@@ -1,5 +1,5 @@
 -- What a delivered piece makes of a batch under way.
-use Rattle.std.proofs.Common.{◌≡◌, ℕ, ◌<◌, ◌≤◌, ◌⊎◌, inl, inr, Bool, true, false, cond, ◌==◌, List, [], ◌∷◌, ◌++◌, map, None, refl, sym, ap, ◌∙◌, subst, arith}
+use Rattle.std.proofs.Common.{◌≡◌, ℕ, ◌<◌, ◌≤◌, ◌⊎◌, inl, inr, Bool, true, false, cond, List, [], ◌∷◌, ◌++◌, map, None, refl, sym, ap, ◌∙◌, subst, arith}
 use Rattle.std.proofs.lemmas.Bool.{eqb-true}
 use Rattle.std.proofs.lemmas.List.{append-nil}
 use Rattle.ds_base.specs.Order.{key_lt}
@@ -21,17 +21,16 @@ use Rattle.ds_cell.specs.Store.{WriteAt, write_all, under_number}
 use Rattle.ds_rule.specs.Asking.{Asking, Gives, Fails, and_then, made_by, ask_all, at_of, failure_of}
 use Rattle.ds_rule.specs.Gathered.{begins_at, put_by_start, by_start, is_at, at_position}
 use Rattle.ds_rule.specs.Journal.{Accepted, pairs}
-use Rattle.ds_rule.specs.Pieces.{Each, IsCut, position_of}
+use Rattle.ds_rule.specs.Pieces.{Each, position_of}
 use Rattle.ds_rule.specs.Turn.{TurnFails, IsNoRefusal, speaks_of, items_at, verdict, after_item, after_items, turn_of}
 use Rattle.ds_turn.specs.Alone.{IsTooOld}
-use Rattle.ds_turn.specs.Batches.{ActsAs, CourseGives}
-use Rattle.ds_turn.specs.Course.{Course, ByBatch, course_after, foreign_writes, with_versions}
-use Rattle.ds_turn.specs.Deliveries.{Serves, Leaves, IsTurnReply, PieceReplies, RepliesInTurn, PieceGoes, FailsInTurn, PieceFails}
+use Rattle.ds_turn.specs.Course.{ByBatch, Course, CourseGives, course_after, foreign_writes, with_versions}
+use Rattle.ds_turn.specs.Deliveries.{FailsInTurn, IsTurnReply, PieceFails, PieceGoes, PieceReplies, RepliesInTurn, Serves}
 use Rattle.ds_turn.specs.Partway.{NumbersInOrder, Partway}
-use Rattle.ds_turn.specs.Progress.{IsAgain, GoesTo, BatchPartway}
-use Rattle.ds_turn.specs.Replies.{ComesAt, InTurn, Answers}
+use Rattle.ds_turn.specs.Progress.{BatchPartway, GoesTo, IsAgain}
+use Rattle.ds_turn.specs.Replies.{Answers, ComesAt}
 use Rattle.ds_turn.proofs.Again.{partway_again}
-use Rattle.ds_turn.proofs.Batches.{part-verdict, rise-held}
+use Rattle.ds_turn.proofs.Parts.{part-verdict, rise-held}
 use Rattle.ds_turn.proofs.Failing.{at-true, at-false, first-item, stands_at}
 use Rattle.ds_turn.proofs.Keys.{IsDone, request-done, request-refused, before-fails, gives_at_keys, made-parts}
 use Rattle.ds_turn.proofs.Progress.{again-still, next-acts, one-more, placed, goes-rest, put-there, progress_kept}
@@ -145,9 +144,9 @@ turn-at s q vs j js c d k low rises numbers h fine front i back is same =
     let t = answers_in_turn s a h.acted h.rest vs c d j h.partway low (subst NumbersInOrder h.all (rise-held k q.items numbers)) (comes-of j (map ByBatch js) h.acted h.rest h.after h.goes) fine in
     let place = stands_at k q.items t.front t.item t.back (h.all ∙ t.is) in
     let one = split-one front i back place.front t.item place.back (subst (Rises position_of) is rises) (sym is ∙ place.is) (same ∙ t.same.position) in
-    t.answers
-    ∙ ap kept (sym (part-verdict a j t.item (after_items a t.front d) t.same))
-    ∙ ap (λ zs. kept (verdict a j (after_items a zs d))) (sym place.before ∙ ap (items_at k) (sym one.0))
+    let mine : verdict a j (after_items a t.front d) ≡ verdict a t.item (after_items a t.front d) = part-verdict a j t.item (after_items a t.front d) t.same in
+    let there : t.front ≡ items_at k front = sym place.before ∙ ap (items_at k) (sym one.0) in
+    t.answers ∙ ap kept (sym mine) ∙ ap (λ zs. kept (verdict a j (after_items a zs d))) there
 
 first_reply : (s : ℕ) (q : Asking) (vs : List ℕ → List Version) (cells : Cells) (j : Item) (js : List Item) (x : Cells) (r : Reply) → q.head.at.0 ≤ s → Rises position_of q.items → NumbersInOrder q.items → Ascends key_of x → Ascends key_of cells
     → StandsAll s q vs cells (j ∷ js) x → (ans : Answers q.head j x r.body) → IsTurnReply q cells (record { head = q.head; item = j; reply = r })
@@ -157,9 +156,9 @@ first_reply s q vs cells j js x r low rises numbers asc ascends all ans front i 
     let keys = gives_at_keys q.head front cells y us ts ascends before in
     cut_answers q.head j x y r.body asc keys.0 ans
     (λ k here.
-        let one : IsDone j.request (at_of q.head j.seq.0) x (write_all (at_of q.head j.seq.0) ans.writes x) k true = subst (IsDone j.request (at_of q.head j.seq.0) x (write_all (at_of q.head j.seq.0) ans.writes x) k) here (done.1 k) in
-        turn-at s q (vs k) j (items_at k js) (content_at k x) (content_at k cells) k low rises numbers (first-stands s q vs cells j js x all k here) one.0 front i back is same
-        ∙ ap (λ c. kept (verdict a j c)) (sym (keys.1 k).1))
+    let one : IsDone j.request (at_of q.head j.seq.0) x (write_all (at_of q.head j.seq.0) ans.writes x) k true = subst (IsDone j.request (at_of q.head j.seq.0) x (write_all (at_of q.head j.seq.0) ans.writes x) k) here (done.1 k) in
+    turn-at s q (vs k) j (items_at k js) (content_at k x) (content_at k cells) k low rises numbers (first-stands s q vs cells j js x all k here) one.0 front i back is same
+    ∙ ap (λ c. kept (verdict a j c)) (sym (keys.1 k).1))
 
 replies-from : (s : ℕ) (q : Asking) (vs : List ℕ → List Version) (cells : Cells) (js : List Item) (x out : Cells) (ws : List WriteAt) (rs : List Reply) → q.head.at.0 ≤ s → Rises position_of q.items → NumbersInOrder q.items → Ascends key_of x → Ascends key_of cells
     → StandsAll s q vs cells js x → ask_all q.head js x ≡ Gives out ws rs → Each (IsTurnReply q cells) (pairs q.head js rs)
@@ -171,8 +170,7 @@ replies-from s q vs cells (j ∷ js) x out ws rs low rises numbers asc ascends a
     let rest = rest-given (under_number at parts.1) reply (ask_all q.head js (write_all at parts.1 x)) out ws rs (sym (ap (λ a. and_then (made_by q.head j a x) (ask_all q.head js)) parts.2) ∙ e) in
     let done = request-done j.request at x parts.0 parts.1 asc parts.2 in
     let first : Answers q.head j x reply.body = record { bits = parts.0; writes = parts.1; gave = parts.2; is = refl } in
-    subst (λ zs. Each (IsTurnReply q cells) (pairs q.head (j ∷ js) zs)) (sym rest.3)
-    (
+    subst (λ zs. Each (IsTurnReply q cells) (pairs q.head (j ∷ js) zs)) (sym rest.3) (
       first_reply s q vs cells j js x reply low rises numbers asc ascends all first,
       replies-from s q vs cells js (write_all at parts.1 x) out rest.0 rest.1 low rises numbers done.0 ascends (rest-stand s q vs cells j js x (write_all at parts.1 x) low numbers done.1 all) rest.2,
     )

@@ -1,5 +1,5 @@
--- Worked cases at one key, some that hold and some that must not.
-use Rattle.std.specs.Prelude.{◌≡◌, ℕ, List, [], ◌∷◌, Some, None, refl, pos}
+-- Worked cases at one key, and of a batch's failures, some that hold and some that must not.
+use Rattle.std.proofs.Common.{◌≡◌, ℕ, ◌<◌, inl, inr, List, [], ◌∷◌, Some, None, refl, pos, arith}
 use Rattle.ds_base.specs.declared.value.Value.TheVariants.{Int}
 use Rattle.ds_kind.specs.declared.batch.Head.{Head}
 use Rattle.ds_kind.specs.declared.batch.Item.{Item}
@@ -12,7 +12,11 @@ use Rattle.ds_cell.specs.declared.verdict.Bit.TheVariants.{Nothing, Value as Sho
 use Rattle.ds_cell.specs.declared.verdict.ActFault.TheVariants.{TooOld}
 use Rattle.ds_cell.specs.Content.{Content, no_content}
 use Rattle.ds_rule.specs.Turn.{TurnFails, TurnGives, after_items, turn_of}
-use Rattle.ds_turn.specs.Course.{Course, ByBatch, ByOther, course_turn, course_after, batch_items, foreign_writes, with_versions}
+use Rattle.ds_turn.specs.Course.{ByBatch, ByOther, Course, batch_items, course_after, course_turn, foreign_writes, with_versions}
+use Rattle.ds_turn.specs.Cuts.{ActsAs}
+use Rattle.ds_turn.specs.KeyIs.{KeyIs}
+use Rattle.ds_turn.specs.Partway.{NumbersInOrder}
+use Rattle.ds_turn.specs.Progress.{GoesTo}
 use Rattle.ds_turn.specs.Settling.{piece_after}
 
 -- a transaction at the stamp 5, and no transaction at the same stamp
@@ -99,3 +103,48 @@ fails_at_the_first = refl
 
 fails_at_the_second : ask_all of_head two_keys ((98 ∷ [], with_versions (foreign 7 ∷ []) no_content) ∷ []) ≡ Fails (Failure.TooOld 1 (98 ∷ []) (record { 0 = 7 }))
 fails_at_the_second = refl
+
+-- what stands at a key in the world, with a write that waits, and in the store
+
+abbrev waits_at : ℕ → Content
+waits_at s = record { versions = foreign 3 ∷ []; owner = 1; epoch = 0; history = record { seq = record { 0 = 1 }; value = None } ∷ []; waiting = foreign s ∷ [] }
+
+abbrev made_at : ℕ → Content
+made_at s = record { versions = foreign 3 ∷ foreign s ∷ []; owner = 1; epoch = 0; history = record { seq = record { 0 = 1 }; value = None } ∷ []; waiting = [] }
+
+-- above the stamp, what waits in the world is a version in the store
+stands_for_it : KeyIs 5 (waits_at 7) (made_at 7)
+stands_for_it = record {
+  rises = (tt, tt);
+  versions = refl;
+  none_waits = refl;
+  history = refl;
+  whose = inr (refl, refl);
+  waits = λ e. cc;
+  above = (omega arith, tt);
+}
+
+-- at the stamp or below it must not wait, and in the store nothing waits
+too_low : KeyIs 5 (waits_at 4) (made_at 4) → ⊥
+too_low h = let low : 5 < 4 = h.above.0 in omega (arith, low)
+
+still_waiting : KeyIs 5 (waits_at 7) (waits_at 7) → ⊥
+still_waiting h = let same : foreign 7 ∷ [] ≡ [] = h.none_waits in cc
+
+-- a read may share its number with the write before it, but not with the write after it
+write_then_read : NumbersInOrder (puts 0 1 ∷ gets 1 1 ∷ puts 2 2 ∷ [])
+write_then_read = ((λ e. cc, (λ e. omega arith, tt)), ((λ e. omega arith, tt), (tt, tt)))
+
+read_then_write : NumbersInOrder (gets 0 1 ∷ puts 1 1 ∷ []) → ⊥
+read_then_write h = let low : 1 < 1 = h.0.0 refl in omega (arith, low)
+
+-- a put whose reply was lost acts again, with a foreign write between, and then the get acts
+lost_and_again : GoesTo (ByBatch (puts 0 1) ∷ ByOther (foreign 7) ∷ ByBatch (puts 0 1) ∷ ByBatch (gets 1 1) ∷ []) [] (puts 0 1 ∷ gets 1 1 ∷ []) (puts 0 1 ∷ gets 1 1 ∷ [])
+lost_and_again =
+    let same : (i : Item) → ActsAs i i = λ i. record { position = refl; number = refl; deed = refl } in
+    inr (same (puts 0 1), inl (record { first = puts 0 1; one = inl refl; same = same (puts 0 1) }, inr (same (gets 1 1), refl)))
+
+-- the get may not act before the put
+not_yet : GoesTo (ByBatch (gets 1 1) ∷ []) [] (puts 0 1 ∷ gets 1 1 ∷ []) (gets 1 1 ∷ []) → ⊥
+not_yet (inl again) = again.0.one
+not_yet (inr next) = let same : ◌≡◌ {A = ℕ} 1 0 = next.0.position in cc

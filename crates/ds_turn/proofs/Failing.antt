@@ -11,17 +11,17 @@ use Rattle.ds_cell.specs.declared.verdict.ActFault.{ActFault}
 use Rattle.ds_cell.specs.declared.verdict.Bit.{Bit}
 use Rattle.ds_cell.specs.declared.verdict.Verdict.{Verdict}
 use Rattle.ds_cell.specs.declared.verdict.Verdict.TheVariants.{Keep, Put, Refuse}
-use Rattle.ds_cell.specs.Ask.{Cells, content_at}
+use Rattle.ds_cell.specs.Ask.{content_at}
 use Rattle.ds_cell.specs.Content.{Content, AllAbove, Rises}
-use Rattle.ds_rule.specs.Asking.{Asking, Fails, ask_all, at_of, failure_of}
+use Rattle.ds_rule.specs.Asking.{Fails, ask_all, at_of, failure_of}
 use Rattle.ds_rule.specs.Pieces.{IsOneOf, position_of}
-use Rattle.ds_rule.specs.Turn.{Turn, TurnFails, TurnGives, IsNoRefusal, and_turn, verdict, after_item, after_items, turn_of, speaks_of, items_at, FailsAt}
-use Rattle.ds_turn.specs.Failing.{FailsFirst, FailsSoonest, TurnsFail, FailsTurn}
-use Rattle.ds_turn.specs.Partway.{NoneRefused}
+use Rattle.ds_rule.specs.Turn.{Turn, TurnFails, TurnGives, IsNoRefusal, verdict, after_item, after_items, turn_of, speaks_of, items_at}
+use Rattle.ds_turn.specs.Course.{NoneRefused}
+use Rattle.ds_turn.specs.Failing.{FailsTurn, TurnsFail}
 use Rattle.ds_turn.proofs.Courses.{and_turn-fine, and_turn-refused, not-fine}
 use Rattle.ds_turn.proofs.Keys.{first_fails, fails_at_key}
 use Rattle.ds_turn.proofs.TooOld.{items_refused, more_fine}
-use Rattle.ds_turn.proofs.Turns.{above-all}
+use Rattle.ds_turn.proofs.Cuts.{above-all}
 
 -- where a turn failed
 
@@ -213,6 +213,14 @@ not-below [] i back x r (inl same) = subst (λ z. i.pos ≤ z.pos) (sym same) (o
 not-below [] i back x r (inr more) = let low = above-all i.pos back x r.0 more in omega (arith, low)
 not-below (y ∷ ys) i back x r one = not-below ys i back x r.1 one
 
+-- what fails from an item on fails at its position or later
+fails-high : (a : At) (k : List ℕ) (front : List Item) (i : Item) (back : List Item) (d : Content) (n : ℕ) (g : ActFault)
+    → Rises position_of (front ++ i ∷ back) → turn_of a (items_at k (i ∷ back)) d ≡ TurnFails n g → i.pos ≤ n
+fails-high a k front i back d n g rises h =
+    let r = failed_in a (items_at k (i ∷ back)) d n g h in
+    let s = stands_at k (i ∷ back) r.front r.item r.back r.is in
+    subst (λ z. i.pos ≤ z) r.position (not-below front i back r.item rises (subst (IsOneOf r.item) (sym s.is) (in-middle s.front r.item s.back)))
+
 pub fails_turn : FailsTurn
 fails_turn q cells failure rises asc h =
     let a = at_of q.head 0 in
@@ -227,13 +235,10 @@ fails_turn q cells failure rises asc h =
           ∙ ap (λ zs. turn_of a zs (content_at r.key cells)) (at_split r.key r.front r.item r.back r.here)
           ∙ items_refused a (items_at r.key r.front) r.item (items_at r.key r.back) (content_at r.key cells) (r.before r.key).bits (r.before r.key).writes r.fault (r.before r.key).gives r.refused;
       soonest = λ j n g fails.
-          let later = past-front a (items_at j r.front) (items_at j (r.item ∷ r.back)) (content_at j cells) n g (r.before j)
+          fails-high a j r.front r.item r.back (after_items a (items_at j r.front) (content_at j cells)) n g rises-so
+          (past-front a (items_at j r.front) (items_at j (r.item ∷ r.back)) (content_at j cells) n g (r.before j)
           (ap (λ zs. turn_of a zs (content_at j cells)) (sym (filter-append (speaks_of j) r.front (r.item ∷ r.back)))
           ∙ ap (λ zs. turn_of a (items_at j zs) (content_at j cells)) (sym r.is)
-          ∙ fails) in
-          let x = failed_in a (items_at j (r.item ∷ r.back)) (after_items a (items_at j r.front) (content_at j cells)) n g later in
-          let s = stands_at j (r.item ∷ r.back) x.front x.item x.back x.is in
-          subst (λ z. r.item.pos ≤ z) x.position
-          (not-below r.front r.item r.back x.item rises-so (subst (IsOneOf x.item) (sym s.is) (in-middle s.front x.item s.back)));
+          ∙ fails));
       says = r.says;
     }

@@ -14,14 +14,13 @@ use Rattle.ds_cell.specs.Seen.{own, last_of, newest_from, version_at, too_old, u
 use Rattle.ds_cell.specs.Change.{made, with_write, foreign_by, after_foreign}
 use Rattle.ds_cell.specs.Deed.{content_after}
 use Rattle.ds_cell.specs.Store.{with_version}
-use Rattle.ds_cell.proofs.LatestFacts.{newest_is, last_where-cons}
+use Rattle.ds_cell.proofs.LatestFacts.{newest_is}
 use Rattle.ds_cell.proofs.LaterFacts.{version_at-made}
 use Rattle.ds_cell.proofs.RisingFacts.{rises_made, rises_fold}
-use Rattle.std.specs.Option.{option_or}
 use Rattle.ds_rule.proofs.Lasts.{none-last, some-last}
 use Rattle.ds_rule.specs.Turn.{asks_as, verdict, after_item}
 use Rattle.ds_turn.specs.Course.{with_versions}
-use Rattle.ds_turn.specs.KeyIs.{KeyIs, FromToday, AnyStamp}
+use Rattle.ds_turn.specs.KeyIs.{AnyStamp, FromToday, KeyIs}
 use Rattle.ds_turn.proofs.Deeds.{Alike, same_deed}
 use Rattle.ds_turn.proofs.Stamps.{below_fold, fold_below, fold_old, newest_one, none_fewer}
 

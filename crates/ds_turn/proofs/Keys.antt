@@ -34,8 +34,8 @@ use Rattle.ds_rule.specs.Asking.{Made, Gives, Fails, and_before, and_then, made_
 use Rattle.ds_rule.proofs.Puts.{put-at}
 use Rattle.ds_cell.specs.StoreProofs.{ascends-insert}
 use Rattle.ds_rule.specs.Turn.{IsNoRefusal, verdict, after_item, after_items, turn_of, speaks_of, items_at}
-use Rattle.ds_turn.specs.Keys.{GivesAtKeys, KeysGive, FirstFails, FailsSomewhere, FailsAtKey}
-use Rattle.ds_turn.specs.Partway.{NoneRefused}
+use Rattle.ds_turn.specs.Course.{NoneRefused}
+use Rattle.ds_turn.specs.Keys.{FailsAtKey, FailsSomewhere, FirstFails, GivesAtKeys, KeysGive}
 use Rattle.ds_turn.proofs.Again.{did_fine}
 use Rattle.ds_turn.proofs.Courses.{and_turn-fine}
 

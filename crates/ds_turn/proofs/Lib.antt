@@ -1,6 +1,6 @@
 pub mod Again
-pub mod Batches
 pub mod Courses
+pub mod Cuts
 pub mod Deeds
 pub mod Deliveries
 pub mod Examples
@@ -8,6 +8,7 @@ pub mod Failing
 pub mod KeyFacts
 pub mod Keys
 pub mod OnePiece
+pub mod Parts
 pub mod Progress
 pub mod Reaches
 pub mod Refusing
@@ -16,4 +17,3 @@ pub mod Settled
 pub mod Stamps
 pub mod Swaps
 pub mod TooOld
-pub mod Turns

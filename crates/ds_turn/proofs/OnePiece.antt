@@ -19,10 +19,10 @@ use Rattle.ds_cell.specs.Store.{WriteAt, put_cell, write_all, under_number, sett
 use Rattle.ds_rule.specs.Asking.{Made, Gives, Fails, and_before, and_then, made_by, ask_all, at_of}
 use Rattle.ds_rule.proofs.Puts.{put-at}
 use Rattle.ds_cell.specs.StoreProofs.{ascends-insert}
-use Rattle.ds_turn.specs.Batches.{PieceGives}
 use Rattle.ds_rule.specs.Turn.{after_items, items_at}
 use Rattle.ds_turn.specs.Course.{with_versions}
 use Rattle.ds_turn.specs.KeyIs.{KeyIs}
+use Rattle.ds_turn.specs.OnePiece.{PieceGives}
 use Rattle.ds_turn.specs.Settling.{after_foreigns, piece_after}
 use Rattle.ds_turn.proofs.KeyFacts.{empty_if}
 use Rattle.ds_turn.proofs.Keys.{gives-cells, keys_give, gives_at_keys}

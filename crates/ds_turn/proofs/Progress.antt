@@ -1,34 +1,30 @@
 -- How far a batch got at each key.
-use Rattle.std.proofs.Common.{◌≡◌, ℕ, ◌≤◌, true, false, cond, ◌⊎◌, inl, inr, List, [], ◌∷◌, ◌++◌, map, refl, sym, ap, ◌∙◌, subst, append_assoc}
+use Rattle.std.proofs.Common.{◌≡◌, ℕ, ◌≤◌, cond, inl, inr, List, [], ◌∷◌, ◌++◌, map, refl, sym, ap, ◌∙◌, subst, append_assoc}
 use Rattle.std.proofs.lemmas.List.{append-nil}
 use Rattle.ds_base.specs.Ordered.{Ascends}
 use Rattle.ds_base.proofs.OrderedFacts.{eq_itself}
 use Rattle.ds_kind.specs.declared.batch.Item.{Item}
 use Rattle.ds_cell.specs.declared.entry.At.{At}
 use Rattle.ds_cell.specs.declared.entry.Version.{Version}
-use Rattle.ds_cell.specs.declared.verdict.ActFault.{ActFault}
-use Rattle.ds_cell.specs.declared.verdict.Verdict.{Verdict}
-use Rattle.ds_cell.specs.declared.verdict.Verdict.TheVariants.{Keep, Put, Refuse}
 use Rattle.ds_cell.specs.Ask.{Cells, key_of, content_at}
 use Rattle.ds_cell.specs.Change.{after_foreign}
 use Rattle.ds_cell.specs.Content.{Content, Rises}
 use Rattle.ds_cell.specs.Store.{put_cell}
-use Rattle.ds_rule.specs.Asking.{Asking, at_of}
+use Rattle.ds_rule.specs.Asking.{at_of}
 use Rattle.ds_rule.specs.Pieces.{Each, IsOneOf, IsCut, position_of}
-use Rattle.ds_rule.specs.Turn.{TurnFails, IsNoRefusal, verdict, after_item, after_items, turn_of, items_at, FailsAt}
+use Rattle.ds_rule.specs.Turn.{TurnFails, IsNoRefusal, verdict, after_item, turn_of, items_at}
 use Rattle.ds_rule.proofs.Puts.{put-at}
-use Rattle.ds_turn.specs.Alone.{IsTooOld}
-use Rattle.ds_turn.specs.Batches.{ActsAs, CourseGives}
-use Rattle.ds_turn.specs.Course.{Course, ByBatch, ByOther, course_after, course_turn, foreign_writes, with_versions, AllForeignAbove}
+use Rattle.ds_turn.specs.Course.{ByBatch, ByOther, Course, CourseGives, course_after, course_turn, foreign_writes, with_versions}
+use Rattle.ds_turn.specs.Cuts.{ActsAs}
 use Rattle.ds_turn.specs.KeyIs.{KeyIs}
 use Rattle.ds_turn.specs.Partway.{AllLater, NumbersInOrder, Partway}
-use Rattle.ds_turn.specs.Progress.{IsAgain, GoesTo, ProgressKept, CutsGoOn, CutsGoAgain, BatchPartway, BatchBegins, BatchGoes, BatchEnds, BatchRefused}
+use Rattle.ds_turn.specs.Progress.{BatchBegins, BatchEnds, BatchGoes, BatchRefused, CutsGoAgain, CutsGoOn, GoesTo, IsAgain, ProgressKept}
 use Rattle.ds_turn.proofs.Again.{partway_begins, partway_foreign, partway_acts, partway_again}
-use Rattle.ds_turn.proofs.Batches.{part-verdict, part-after, rise-held}
+use Rattle.ds_turn.proofs.Parts.{part-verdict, part-after, rise-held}
 use Rattle.ds_turn.proofs.Courses.{and_turn-fine}
 use Rattle.ds_turn.proofs.Keys.{keys_give, gives_at_keys}
 use Rattle.ds_turn.proofs.Refusing.{partway_refused}
-use Rattle.ds_turn.proofs.Turns.{cut-acts}
+use Rattle.ds_turn.proofs.Cuts.{cut-acts}
 
 -- numbers of a front
 

@@ -1,13 +1,13 @@
 -- Where a request acts, and what it owes there: one key, or a span of keys.
-use Rattle.std.proofs.Common.{◌≡◌, ℕ, Bool, true, false, ◌&&◌, cond, ◌⊎◌, inl, inr, List, [], ◌∷◌, reverse, Option, refl, sym, ap, ◌∙◌, subst}
-use Rattle.ds_base.specs.Order.{key_lt, key_le, holds, after}
+use Rattle.std.proofs.Common.{◌≡◌, ℕ, true, false, ◌&&◌, cond, ◌⊎◌, inl, inr, List, [], ◌∷◌, reverse, Option, refl, sym, ap, ◌∙◌, subst}
+use Rattle.ds_base.specs.Order.{key_lt, key_le, holds}
 use Rattle.ds_base.specs.Ordered.{Ascends, between}
 use Rattle.ds_base.specs.declared.value.Value.{Value}
 use Rattle.ds_base.proofs.KeyFacts.{own_span}
 use Rattle.ds_base.proofs.OrderedFacts.{not_lt_of_le}
 use Rattle.ds_kind.specs.Bodies.{goes_down, join_bodies}
 use Rattle.ds_kind.specs.Flags.{flags_of}
-use Rattle.ds_kind.specs.Reach.{Reach, At, Over, extent_of}
+use Rattle.ds_kind.specs.Reach.{At, Over, extent_of}
 use Rattle.ds_kind.specs.Request.{cut_to, kind_of, reach_of}
 use Rattle.ds_kind.specs.declared.reply.Body.{Body}
 use Rattle.ds_kind.specs.declared.reply.Body.TheVariants.{Rows, Gone as Keys}
@@ -16,7 +16,7 @@ use Rattle.ds_kind.specs.declared.request.Request.TheVariants.{Get, Scan, Revers
 use Rattle.ds_cell.specs.declared.entry.At.{At as Who}
 use Rattle.ds_cell.specs.declared.verdict.Verdict.{Verdict}
 use Rattle.ds_cell.specs.declared.verdict.Verdict.TheVariants.{Keep, Put, Refuse}
-use Rattle.ds_cell.specs.Ask.{Cells, key_of, Asked, Gave, one_more, ask_each, ask, content_at, places}
+use Rattle.ds_cell.specs.Ask.{Cells, key_of, Gave, one_more, ask_each, ask, content_at, places}
 use Rattle.ds_cell.specs.Content.{Content, no_content}
 use Rattle.ds_cell.specs.KeyProofs.{quiet, tell, told, told_by_key, same_answer, rows_told, keys_told, quiet_read, quiet_nothing, quiet_delete}
 use Rattle.ds_cell.specs.Replies.{Bits, body_of}

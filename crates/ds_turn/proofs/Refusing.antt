@@ -1,12 +1,12 @@
 -- The next item in the middle of a batch is refused.
-use Rattle.std.proofs.Common.{◌≡◌, ℕ, List, [], ◌∷◌, ◌++◌, map, refl, sym, ap, ◌∙◌}
+use Rattle.std.proofs.Common.{◌≡◌, ℕ, List, [], ◌∷◌, map, refl, sym, ap, ◌∙◌}
 use Rattle.ds_kind.specs.declared.batch.Item.{Item}
 use Rattle.ds_cell.specs.declared.entry.At.{At}
 use Rattle.ds_cell.specs.declared.verdict.Verdict.TheVariants.{Refuse}
 use Rattle.ds_cell.specs.Content.{Content}
 use Rattle.ds_cell.specs.Seen.{own}
 use Rattle.ds_rule.specs.Turn.{and_turn, asks_as, verdict, after_item, after_items, turn_of}
-use Rattle.ds_turn.specs.Course.{ByBatch, course_turn, course_after, made_after, made_turn, batch_items, foreign_writes, with_versions, AllForeignAbove}
+use Rattle.ds_turn.specs.Course.{AllForeignAbove, ByBatch, batch_items, course_after, course_turn, foreign_writes, made_after, made_turn, with_versions}
 use Rattle.ds_turn.specs.Partway.{PartwayRefused}
 use Rattle.ds_turn.proofs.Again.{stays_items}
 use Rattle.ds_turn.proofs.Deeds.{old_deed}

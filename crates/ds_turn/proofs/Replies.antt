@@ -8,8 +8,8 @@ use Rattle.ds_base.proofs.KeyOrder.{below-after, key_lt-irrefl}
 use Rattle.ds_base.proofs.OrderedFacts.{le_of_lt, le_trans}
 use Rattle.ds_base.proofs.TestFacts.{not_both}
 use Rattle.ds_kind.specs.Bodies.{goes_down, join_bodies}
-use Rattle.ds_kind.specs.Reach.{At as Point, Over, extent_of}
-use Rattle.ds_kind.specs.Request.{cut_to, reach_of, span_of}
+use Rattle.ds_kind.specs.Reach.{extent_of}
+use Rattle.ds_kind.specs.Request.{cut_to}
 use Rattle.ds_kind.specs.declared.batch.Head.{Head}
 use Rattle.ds_kind.specs.declared.batch.Item.{Item}
 use Rattle.ds_kind.specs.declared.reply.Body.{Body}
@@ -33,14 +33,14 @@ use Rattle.ds_cell.specs.Store.{WriteAt, write_all, under_number}
 use Rattle.ds_rule.specs.Asking.{Made, Gives, Fails, and_before, and_then, made_by, ask_all, at_of}
 use Rattle.ds_rule.specs.Gathered.{Joins, by_start, at_position, Gathered}
 use Rattle.ds_rule.specs.Journal.{Accepted}
-use Rattle.ds_rule.specs.Pieces.{Each, IsOneOf}
-use Rattle.ds_rule.specs.Turn.{IsNoRefusal, speaks_of, verdict, after_items}
-use Rattle.ds_turn.specs.Batches.{ActsAs}
+use Rattle.ds_rule.specs.Pieces.{Each}
+use Rattle.ds_rule.specs.Turn.{IsNoRefusal, speaks_of, verdict}
+use Rattle.ds_turn.specs.Cuts.{ActsAs}
 use Rattle.ds_turn.specs.Partway.{NumbersInOrder, Partway}
 use Rattle.ds_turn.specs.Progress.{IsAgain}
-use Rattle.ds_turn.specs.Replies.{ComesAt, InTurn, AnswersInTurn, Answers, CutAnswers, JoinsAnswer, AllInTurn, GatheredAsks}
+use Rattle.ds_turn.specs.Replies.{AllInTurn, Answers, AnswersInTurn, CutAnswers, GatheredAsks, InTurn, JoinsAnswer}
 use Rattle.ds_turn.proofs.Again.{partway_acts, partway_again}
-use Rattle.ds_turn.proofs.Batches.{part-verdict, cut_deed}
+use Rattle.ds_turn.proofs.Parts.{part-verdict, cut_deed}
 use Rattle.ds_turn.proofs.Keys.{IsDone, gives-cells, made-parts, request-done, request-given}
 use Rattle.ds_turn.proofs.Progress.{numbers-front, one-more, placed}
 use Rattle.ds_turn.proofs.Reaches.{ActsAt, ActsOver, acts_where, between_nothing, ask_over, same_body}
@@ -105,8 +105,8 @@ cut_answers h j x y body ax ay ans same =
     let done = request-done j.request at x ans.bits ans.writes ax ans.gave in
     let fine : (k : List ℕ) → speaks_of k j ≡ true → IsNoRefusal (deed_of j.request at (content_at k y)) =
     λ k here.
-        let one : IsDone j.request at x (write_all at ans.writes x) k true = subst (IsDone j.request at x (write_all at ans.writes x) k) here (done.1 k) in
-        kept-fine (deed_of j.request at (content_at k x)) (deed_of j.request at (content_at k y)) (same k here) one.0
+    let one : IsDone j.request at x (write_all at ans.writes x) k true = subst (IsDone j.request at x (write_all at ans.writes x) k) here (done.1 k) in
+    kept-fine (deed_of j.request at (content_at k x)) (deed_of j.request at (content_at k y)) (same k here) one.0
     in
     let given = request-given j.request at y ay fine in
     record {

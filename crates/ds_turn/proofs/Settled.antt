@@ -10,9 +10,9 @@ use Rattle.ds_cell.specs.Seen.{held, last_of}
 use Rattle.ds_cell.specs.Change.{made, settling, settled_by, settled, after_foreign}
 use Rattle.ds_cell.proofs.RisingFacts.{rises_fold}
 use Rattle.ds_rule.specs.Turn.{verdict, after_item, and_turn, after_items, turn_of}
-use Rattle.ds_turn.specs.Course.{Course, ByBatch, ByOther, course_after, course_turn, batch_items, foreign_writes, with_versions, AllForeignAbove}
+use Rattle.ds_turn.specs.Course.{AllForeignAbove, ByBatch, ByOther, Course, batch_items, course_after, course_turn, foreign_writes, with_versions}
 use Rattle.ds_turn.specs.KeyIs.{KeyIs}
-use Rattle.ds_turn.specs.Settling.{CommitsBy, SettlesAlike, PieceAlone, after_foreigns, piece_after}
+use Rattle.ds_turn.specs.Settling.{CommitsBy, PieceAlone, SettlesAlike, after_foreigns, piece_after}
 use Rattle.ds_turn.proofs.Courses.{acts_alone}
 use Rattle.ds_turn.proofs.KeyFacts.{empty_if, key_foreign}
 use Rattle.ds_turn.proofs.Swaps.{fold_swap}

@@ -17,8 +17,8 @@ use Rattle.ds_cell.specs.LawProofs.{own-wrote}
 use Rattle.ds_cell.specs.Store.{with_version}
 use Rattle.ds_cell.proofs.LaterFacts.{version_at-made}
 use Rattle.ds_rule.specs.Turn.{IsNoRefusal, asks_as, verdict, after_item, Turn, TurnFails, TurnGives, and_turn, after_items, turn_of}
-use Rattle.ds_turn.specs.Course.{Course, ByBatch, ByOther, course_after, course_turn, made_after, made_turn, batch_items, foreign_writes, with_versions, AllForeignAbove}
-use Rattle.ds_turn.specs.Alone.{RefusedAfter, FailsOld}
+use Rattle.ds_turn.specs.Alone.{FailsOld, RefusedAfter}
+use Rattle.ds_turn.specs.Course.{AllForeignAbove, ByBatch, ByOther, Course, batch_items, course_after, course_turn, foreign_writes, made_after, made_turn, with_versions}
 use Rattle.ds_turn.proofs.Deeds.{Alike, kept_deed, old_deed}
 use Rattle.ds_turn.proofs.Courses.{and_turn-fine, and_turn-refused, and_turn-later, same_course}
 use Rattle.ds_turn.proofs.KeyFacts.{written_some, key_verdict, more_alike}

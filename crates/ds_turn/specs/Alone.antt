@@ -1,4 +1,4 @@
--- What the items of a batch do at one key beside foreign writes, and what they do alone.
+-- What a batch's items do at a key beside other clients' writes, and what they do there alone.
 use Rattle.std.specs.Prelude.{◌≡◌, ℕ, ◌≤◌, List, [], ◌∷◌, ◌++◌}
 use Rattle.ds_base.specs.declared.value.Stamp.{Stamp}
 use Rattle.ds_kind.specs.declared.batch.Item.{Item}
@@ -9,17 +9,21 @@ use Rattle.ds_cell.specs.declared.verdict.ActFault.{ActFault}
 use Rattle.ds_cell.specs.declared.verdict.ActFault.TheVariants.{TooOld}
 use Rattle.ds_cell.specs.Content.{Content}
 use Rattle.ds_rule.specs.Turn.{TurnFails, TurnGives, after_items, turn_of}
-use Rattle.ds_turn.specs.Course.{Course, ByBatch, course_after, course_turn, made_after, made_turn, batch_items, foreign_writes, with_versions, AllForeignAbove}
+use Rattle.ds_turn.specs.Course.{AllForeignAbove, ByBatch, Course, batch_items, course_after, course_turn, foreign_writes, made_after, made_turn, with_versions}
 use Rattle.ds_turn.specs.KeyIs.{KeyIs}
 
--- the world goes with the store that makes each foreign write at once: the same answers, writes and refusals
+-- c is what the world holds at the key before the course, and d what the store holds there; s is the floor, below which no
+-- other client writes and above which the batch does not ask
+
+-- a store that makes each foreign write at once goes along with the world, where it may wait: item by item the same
+-- answer, the same write or the same refusal
 abbrev pub SameCourse : Type 0
 SameCourse =
     (s : ℕ) (a : At) (bs : Course) (c d : Content) → KeyIs s c d → a.stamp.0 ≤ s → AllForeignAbove s bs
     → (made_turn a bs d ≡ course_turn a bs c) × KeyIs s (course_after a bs c) (made_after a bs d)
 
--- where no item was refused, the items alone answer and write the same, and the store's content after them, with the
--- foreign writes made then, is what the world holds
+-- items of which none was refused in the world do on d, without any foreign write, what they did; making the foreign
+-- writes afterwards gives what the world holds then
 abbrev pub ActsAlone : Type 0
 ActsAlone =
     (s : ℕ) (a : At) (bs : Course) (c d : Content) (bits : List (ℕ × Bit)) (ws : List Written) → KeyIs s c d → a.stamp.0 ≤ s → AllForeignAbove s bs
@@ -29,13 +33,13 @@ ActsAlone =
 abbrev pub IsTooOld : ActFault → Type 0
 IsTooOld f = (t : Stamp) × (f ≡ TooOld t)
 
--- an item that was refused otherwise than as too old is refused so without the foreign writes
+-- any refusal but "too old" comes without the foreign writes as well, of the same item
 abbrev pub FailsAlone : Type 0
 FailsAlone =
     (s : ℕ) (a : At) (bs : Course) (c d : Content) (p : ℕ) (f : ActFault) → KeyIs s c d → a.stamp.0 ≤ s → AllForeignAbove s bs
     → course_turn a bs c ≡ TurnFails p f → (IsTooOld f → ⊥) → turn_of a (batch_items bs) d ≡ TurnFails p f
 
--- what was done up to the first refusal, and whose it is
+-- the course up to its first refusal, and the item that was refused
 pub record RefusedAfter (a : At) (bs : Course) (c : Content) (p : ℕ) (f : ActFault) : Type 0 where
   pub front : Course
   pub item : Item
@@ -47,8 +51,8 @@ pub record RefusedAfter (a : At) (bs : Course) (c : Content) (p : ℕ) (f : ActF
   pub before : course_turn a front c ≡ TurnGives bits writes
   pub refused : course_turn a (ByBatch item ∷ []) (course_after a front c) ≡ TurnFails p f
 
--- an item that was refused as too old is refused so where all foreign writes made so far are made first, and nothing
--- was written at this key before it
+-- an item that came too old in the world comes too old, with the same stamp, on a store where the foreign writes before it
+-- stand from the beginning; those after it would name another stamp. The batch had written nothing at the key by then.
 abbrev pub FailsOld : Type 0
 FailsOld =
     (s : ℕ) (a : At) (bs : Course) (c d : Content) (p : ℕ) (t : Stamp) → KeyIs s c d → a.stamp.0 ≤ s → AllForeignAbove s bs

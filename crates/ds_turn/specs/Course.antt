@@ -1,12 +1,14 @@
 -- What happens at one key while a batch is asked: its items act there, and other clients write.
-use Rattle.std.specs.Prelude.{ℕ, ◌<◌, List, [], ◌∷◌, fold}
+use Rattle.std.specs.Prelude.{◌≡◌, ℕ, ◌<◌, List, [], ◌∷◌, fold}
 use Rattle.ds_kind.specs.declared.batch.Item.{Item}
 use Rattle.ds_cell.specs.declared.entry.At.{At}
 use Rattle.ds_cell.specs.declared.entry.Version.{Version}
+use Rattle.ds_cell.specs.declared.entry.Written.{Written}
+use Rattle.ds_cell.specs.declared.verdict.Bit.{Bit}
 use Rattle.ds_cell.specs.Content.{Content}
 use Rattle.ds_cell.specs.Change.{made, after_foreign}
 use Rattle.ds_cell.specs.Store.{with_version}
-use Rattle.ds_rule.specs.Turn.{Turn, TurnGives, and_turn, verdict, after_item}
+use Rattle.ds_rule.specs.Turn.{Turn, TurnGives, and_turn, verdict, after_item, turn_of}
 
 -- an item of the batch acts on the key, or another client writes there
 pub data Touch : Type 0 where
@@ -63,3 +65,15 @@ made_turn a bs d = turn_by with_version a bs d
 -- foreign writes alone, made at once
 abbrev pub with_versions : List Version → Content → Content
 with_versions vs d = record d { versions = fold made d.versions vs }
+
+-- the items, asked in order on this content, are none of them refused
+pub record NoneRefused (a : At) (is : List Item) (d : Content) : Type 0 where
+  pub bits : List (ℕ × Bit)
+  pub writes : List Written
+  pub gives : turn_of a is d ≡ TurnGives bits writes
+
+-- in the course from this content of the world, no item is refused
+pub record CourseGives (a : At) (bs : Course) (c : Content) : Type 0 where
+  pub bits : List (ℕ × Bit)
+  pub writes : List Written
+  pub gives : course_turn a bs c ≡ TurnGives bits writes

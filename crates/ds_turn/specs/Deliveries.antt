@@ -9,15 +9,15 @@ use Rattle.ds_cell.specs.declared.verdict.ActFault.{ActFault}
 use Rattle.ds_cell.specs.Ask.{Cells, key_of, content_at}
 use Rattle.ds_cell.specs.Content.{Content, Rises}
 use Rattle.ds_cell.specs.Store.{WriteAt, put_cell}
-use Rattle.ds_rule.specs.Asking.{Asking, Gives, Fails, ask_all, at_of, failure_of}
+use Rattle.ds_rule.specs.Asking.{Asking, Gives, Fails, ask_all, failure_of}
 use Rattle.ds_rule.specs.Journal.{Accepted, pairs}
 use Rattle.ds_rule.specs.Pieces.{Each, IsCut, position_of}
 use Rattle.ds_rule.specs.Turn.{items_at, FailsAt}
 use Rattle.ds_turn.specs.Alone.{IsTooOld}
 use Rattle.ds_turn.specs.Course.{ByBatch, with_versions}
 use Rattle.ds_turn.specs.Partway.{NumbersInOrder}
-use Rattle.ds_turn.specs.Progress.{GoesTo, BatchPartway}
-use Rattle.ds_turn.specs.Replies.{Answers, AllInTurn}
+use Rattle.ds_turn.specs.Progress.{BatchPartway, GoesTo}
+use Rattle.ds_turn.specs.Replies.{AllInTurn, Answers}
 
 -- a range that holds x serves these items of the batch: x is what the world holds where they act, and at each key they
 -- act in their turn, or again

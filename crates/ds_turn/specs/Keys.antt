@@ -1,8 +1,7 @@
 -- A batch asked of all contents at once, told by its keys.
-use Rattle.std.specs.Prelude.{◌≡◌, ℕ, Bool, List, ◌∷◌, ◌++◌, true, filter}
-use Rattle.ds_base.specs.Order.{key_lt, holds}
+use Rattle.std.specs.Prelude.{◌≡◌, ℕ, List, ◌∷◌, ◌++◌, true}
+use Rattle.ds_base.specs.Order.{key_lt}
 use Rattle.ds_base.specs.Ordered.{Ascends}
-use Rattle.ds_kind.specs.Request.{span_of}
 use Rattle.ds_kind.specs.declared.batch.Head.{Head}
 use Rattle.ds_kind.specs.declared.batch.Item.{Item}
 use Rattle.ds_kind.specs.declared.reply.Failure.{Failure}
@@ -13,22 +12,22 @@ use Rattle.ds_cell.specs.Ask.{Cells, key_of, content_at}
 use Rattle.ds_cell.specs.Store.{WriteAt}
 use Rattle.ds_rule.specs.Asking.{Gives, Fails, ask_all, at_of, failure_of}
 use Rattle.ds_rule.specs.Turn.{IsNoRefusal, speaks_of, items_at, verdict, after_items}
-use Rattle.ds_turn.specs.Partway.{NoneRefused}
+use Rattle.ds_turn.specs.Course.{NoneRefused}
 
--- where a batch was asked and not refused, the items at each key were not, and did there what they do one after another
+-- a batch that is not refused is refused at no key, and what it leaves at each is what its items there leave in their order
 abbrev pub GivesAtKeys : Type 0
 GivesAtKeys =
     (h : Head) (items : List Item) (cells out : Cells) (ws : List WriteAt) (rs : List Reply) → Ascends key_of cells → ask_all h items cells ≡ Gives out ws rs
     → Ascends key_of out
     × ((k : List ℕ) → NoneRefused (at_of h 0) (items_at k items) (content_at k cells) × (content_at k out ≡ after_items (at_of h 0) (items_at k items) (content_at k cells)))
 
--- and where the items at each key are not refused, the batch is not
+-- and a batch that is refused at no key is not refused
 abbrev pub KeysGive : Type 0
 KeysGive =
     (h : Head) (items : List Item) (cells : Cells) → Ascends key_of cells → ((k : List ℕ) → NoneRefused (at_of h 0) (items_at k items) (content_at k cells))
     → (out : Cells) × (ws : List WriteAt) × (rs : List Reply) × (ask_all h items cells ≡ Gives out ws rs)
 
--- where the items before one are not refused at any key, and it is refused at a key and at none below, the batch fails so
+-- the batch fails as its first refused item does, at the least key that refuses it
 abbrev pub FirstFails : Type 0
 FirstFails =
     (h : Head) (xs : List Item) (i : Item) (ys : List Item) (cells : Cells) (k : List ℕ) (f : ActFault) → Ascends key_of cells
@@ -37,7 +36,7 @@ FirstFails =
     → ((q : List ℕ) → key_lt q k ≡ true → speaks_of q i ≡ true → IsNoRefusal (verdict (at_of h 0) i (after_items (at_of h 0) (items_at q xs) (content_at q cells))))
     → ask_all h (xs ++ i ∷ ys) cells ≡ Fails (failure_of i.pos k f)
 
--- where a batch failed: the items before one were not refused at any key, and it was refused at this key
+-- the place of a failure: an item that is refused at a key, where those before it are refused at none
 pub record FailsSomewhere (h : Head) (items : List Item) (cells : Cells) (failure : Failure) : Type 0 where
   pub front : List Item
   pub item : Item

@@ -14,8 +14,8 @@ use Rattle.ds_rule.specs.Asking.{Asking, Gives, ask_all, at_of}
 use Rattle.ds_rule.specs.Pieces.{Each, IsOneOf, IsCut, position_of}
 use Rattle.ds_rule.specs.Turn.{items_at, verdict, FailsAt}
 use Rattle.ds_turn.specs.Alone.{IsTooOld}
-use Rattle.ds_turn.specs.Batches.{ActsAs, CourseGives}
-use Rattle.ds_turn.specs.Course.{Course, ByBatch, ByOther, course_after, foreign_writes, with_versions, AllForeignAbove}
+use Rattle.ds_turn.specs.Course.{AllForeignAbove, ByBatch, ByOther, Course, CourseGives, course_after, foreign_writes, with_versions}
+use Rattle.ds_turn.specs.Cuts.{ActsAs}
 use Rattle.ds_turn.specs.KeyIs.{KeyIs}
 use Rattle.ds_turn.specs.Partway.{NumbersInOrder, Partway}
 

@@ -10,7 +10,7 @@ use Rattle.ds_kind.specs.declared.reply.Reply.{Reply}
 use Rattle.ds_cell.specs.declared.entry.At.{At}
 use Rattle.ds_cell.specs.declared.entry.Version.{Version}
 use Rattle.ds_cell.specs.Ask.{Cells, key_of, Gave, content_at}
-use Rattle.ds_cell.specs.Content.{Content, Rises}
+use Rattle.ds_cell.specs.Content.{Content}
 use Rattle.ds_cell.specs.Replies.{Bits, body_of}
 use Rattle.ds_cell.specs.RepeatProofs.{kept}
 use Rattle.ds_cell.specs.Requests.{ask_request}
@@ -18,9 +18,9 @@ use Rattle.ds_cell.specs.Store.{WriteAt}
 use Rattle.ds_rule.specs.Asking.{Gives, ask_all, at_of}
 use Rattle.ds_rule.specs.Gathered.{Joins, by_start, at_position, Gathered}
 use Rattle.ds_rule.specs.Journal.{Accepted}
-use Rattle.ds_rule.specs.Pieces.{Each, position_of}
-use Rattle.ds_rule.specs.Turn.{IsNoRefusal, speaks_of, items_at, verdict, after_items}
-use Rattle.ds_turn.specs.Batches.{ActsAs}
+use Rattle.ds_rule.specs.Pieces.{Each}
+use Rattle.ds_rule.specs.Turn.{IsNoRefusal, speaks_of, verdict, after_items}
+use Rattle.ds_turn.specs.Cuts.{ActsAs}
 use Rattle.ds_turn.specs.Partway.{NumbersInOrder, Partway}
 use Rattle.ds_turn.specs.Progress.{IsAgain}
 

@@ -17,20 +17,21 @@ abbrev pub CommitsBy : ℕ → Option Stamp → Type 0
 CommitsBy s None = Unit {0}
 CommitsBy s (Some t) = t.0 ≤ s
 
--- settled in the world and in the store, with a commit or without
+-- settling a transaction's intent on both sides, committed or dropped, keeps the key as it is to the store's
 abbrev pub SettlesAlike : Type 0
 SettlesAlike =
     (s txn : ℕ) (commit : Option Stamp) (c d : Content) → KeyIs s c d → CommitsBy s commit
     → KeyIs s (settled txn commit c) (settled txn commit d)
 
--- foreign writes, then the items at once with their settling, then foreign writes: the items with their settling, and
--- all foreign writes then
+-- other clients' writes, one after another, in the world
 abbrev pub after_foreigns : List Version → Content → Content
 after_foreigns vs c = fold (λ d v. after_foreign v d) c vs
 
+-- a piece without a transaction: its items, and the settling of what they wrote
 abbrev pub piece_after : At → List Item → Content → Content
 piece_after a is c = settled a.txn.0 (Some a.stamp) (after_items a is c)
 
+-- a piece that acts between foreign writes answers what it answers without them, and leaves the same but for them
 abbrev pub PieceAlone : Type 0
 PieceAlone =
     (s : ℕ) (a : At) (before : List Version) (is : List Item) (later : List Version) (c d : Content) (bits : List (ℕ × Bit)) (ws : List Written)

@@ -1,8 +1,9 @@
 //! A whole batch, told by its keys.
-ghost use Rattle.ds_turn.specs.Batches.{BatchGives, BatchNumbers, CutDeed, PieceGives};
+ghost use Rattle.ds_turn.specs.Cuts.{CutDeed};
 ghost use Rattle.ds_turn.specs.Failing.{FailsTurn, TurnsFail};
 ghost use Rattle.ds_turn.specs.Keys.{FailsAtKey, FirstFails, GivesAtKeys, KeysGive};
-ghost use Rattle.ds_turn.specs.Turns.{CutsActAs};
+ghost use Rattle.ds_turn.specs.OnePiece.{PieceGives};
+ghost use Rattle.ds_turn.specs.Partway.{BatchNumbers};
 
 /// Does nothing. Its clause: a batch that was asked and not refused was refused at no key, and left at
 /// each what its items there leave one after another.
@@ -38,15 +39,9 @@ pub fn fails_turn()
     ensures { FailsTurn }
 {}
 
-/// Does nothing. Its clause: a batch of a transaction in pieces between foreign writes: where none was
-/// refused, the batch asked at once of the store is not refused, and leaves what the world holds, but
+/// Does nothing. Its clause: a batch without a transaction, whose one piece is refused at no key in the
+/// world, is not refused where it is asked of the store, and leaves, settled, what the world holds but
 /// for the foreign writes.
-pub fn batch_gives()
-    ensures { BatchGives }
-{}
-
-/// Does nothing. Its clause: the same of a batch without a transaction, whose one piece settles what it
-/// wrote.
 pub fn piece_gives()
     ensures { PieceGives }
 {}
@@ -60,10 +55,4 @@ pub fn cut_deed()
 /// hold one key.
 pub fn batch_numbers()
     ensures { BatchNumbers }
-{}
-
-/// Does nothing. Its clause: cuts of a batch's items, whose positions at a key are those of the items
-/// that hold it, act there as these.
-pub fn cuts_act_as()
-    ensures { CutsActAs }
 {}

@@ -3,7 +3,6 @@ ghost use Rattle.ds_turn.specs.Alone.{ActsAlone, FailsAlone, FailsOld, SameCours
 ghost use Rattle.ds_turn.specs.KeyIs.{AnyStamp, FromToday};
 ghost use Rattle.ds_turn.specs.Partway.{AskedAgain};
 ghost use Rattle.ds_turn.specs.Settling.{PieceAlone, SettlesAlike};
-ghost use Rattle.ds_turn.specs.Turns.{TurnAlone};
 
 /// Does nothing. Its clause: the world at a key goes step by step with a store that makes each foreign
 /// write at once: the same answers and writes, and the same refusals. What waits in the world is in that
@@ -30,12 +29,6 @@ pub fn fails_alone()
 /// the key.
 pub fn fails_old()
     ensures { FailsOld }
-{}
-
-/// Does nothing. Its clause: where no item was refused, each does in the world exactly what it does in
-/// its turn on what the store held before.
-pub fn turn_alone()
-    ensures { TurnAlone }
 {}
 
 /// Does nothing. Its clause: an item that is asked again under its number answers as it did and writes

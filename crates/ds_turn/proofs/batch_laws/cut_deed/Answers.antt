@@ -1,4 +1,4 @@
-use Rattle.ds_turn.proofs.Batches.{cut_deed}
+use Rattle.ds_turn.proofs.Parts.{cut_deed}
 use Rattle.ds_turn.proofs.batch_laws.cut_deed.Goals as goal
 
 pub returns : goal.returns
