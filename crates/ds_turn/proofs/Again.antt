@@ -135,17 +135,27 @@ partway_foreign s a acted vs c d v m high = record {
   none_refused = m.none_refused;
 }
 
-pub stays_items : (a : At) (is : List Item) (d : Content) → Rises stamp_of d.versions → (after_items a is d).waiting ≡ [] → Stays (after_items a is d)
-stays_items a is d r none = record { rises = subst (λ vs. Rises stamp_of vs) (sym (versions-stay a is d)) r; none_waits = none }
-  where
-    stay-by : (at : At) (v : Verdict) (d : Content) → (content_after at v d).versions ≡ d.versions
-    stay-by at (Keep b) d = refl
-    stay-by at (Put w b) d = refl
-    stay-by at (Refuse f) d = refl
+versions-kept : (at : At) (v : Verdict) (d : Content) → (content_after at v d).versions ≡ d.versions
+versions-kept at (Keep b) d = refl
+versions-kept at (Put w b) d = refl
+versions-kept at (Refuse f) d = refl
 
-    versions-stay : (a : At) (is : List Item) (d : Content) → (after_items a is d).versions ≡ d.versions
-    versions-stay a [] d = refl
-    versions-stay a (i ∷ is) d = versions-stay a is (after_item a i d) ∙ stay-by (asks_as a i) (verdict a i d) d
+-- items change no versions, and nothing that waits
+pub versions_stay : (a : At) (is : List Item) (d : Content) → (after_items a is d).versions ≡ d.versions
+versions_stay a [] d = refl
+versions_stay a (i ∷ is) d = versions_stay a is (after_item a i d) ∙ versions-kept (asks_as a i) (verdict a i d) d
+
+waiting-kept : (at : At) (v : Verdict) (d : Content) → (content_after at v d).waiting ≡ d.waiting
+waiting-kept at (Keep b) d = refl
+waiting-kept at (Put w b) d = refl
+waiting-kept at (Refuse f) d = refl
+
+pub waiting_stays : (a : At) (is : List Item) (d : Content) → (after_items a is d).waiting ≡ d.waiting
+waiting_stays a [] d = refl
+waiting_stays a (i ∷ is) d = waiting_stays a is (after_item a i d) ∙ waiting-kept (asks_as a i) (verdict a i d) d
+
+pub stays_items : (a : At) (is : List Item) (d : Content) → Rises stamp_of d.versions → (after_items a is d).waiting ≡ [] → Stays (after_items a is d)
+stays_items a is d r none = record { rises = subst (λ vs. Rises stamp_of vs) (sym (versions_stay a is d)) r; none_waits = none }
 
 pub partway_acts : PartwayActs
 partway_acts s a acted vs c d i m low numbers never =

@@ -134,6 +134,14 @@ rest-stand s q vs cells j js x next low numbers done all k = by (speaks_of k j) 
               (subst (λ zs. StandsNow s (at_of q.head 0) (items_at k q.items) zs (vs k) (content_at k x) (content_at k cells)) (at-false k j js here) stands))
         ]
 
+-- the items before one at a key are those of the batch before it that hold the key
+front-at : (k : List ℕ) (items front : List Item) (i : Item) (back xs : List Item) (w : Item) (ys : List Item) → Rises position_of items → items ≡ front ++ i ∷ back
+    → items_at k items ≡ xs ++ w ∷ ys → i.pos ≡ w.pos → xs ≡ items_at k front
+front-at k items front i back xs w ys rises is here same =
+    let place = stands_at k items xs w ys here in
+    let one : front ≡ place.front = (split-one front i back place.front w place.back (subst (Rises position_of) is rises) (sym is ∙ place.is) same).0 in
+    sym place.before ∙ ap (items_at k) (sym one)
+
 -- the first item's answer at a key is that of its turn
 turn-at : (s : ℕ) (q : Asking) (vs : List Version) (j : Item) (js : List Item) (c d : Content) (k : List ℕ) → q.head.at.0 ≤ s → Rises position_of q.items → NumbersInOrder q.items
     → StandsNow s (at_of q.head 0) (items_at k q.items) (j ∷ js) vs c d → IsNoRefusal (verdict (at_of q.head 0) j c)
@@ -142,11 +150,10 @@ turn-at : (s : ℕ) (q : Asking) (vs : List Version) (j : Item) (js : List Item)
 turn-at s q vs j js c d k low rises numbers h fine front i back is same =
     let a = at_of q.head 0 in
     let t = answers_in_turn s a h.acted h.rest vs c d j h.partway low (subst NumbersInOrder h.all (rise-held k q.items numbers)) (comes-of j (map ByBatch js) h.acted h.rest h.after h.goes) fine in
-    let place = stands_at k q.items t.front t.item t.back (h.all ∙ t.is) in
-    let one = split-one front i back place.front t.item place.back (subst (Rises position_of) is rises) (sym is ∙ place.is) (same ∙ t.same.position) in
     let mine : verdict a j (after_items a t.front d) ≡ verdict a t.item (after_items a t.front d) = part-verdict a j t.item (after_items a t.front d) t.same in
-    let there : t.front ≡ items_at k front = sym place.before ∙ ap (items_at k) (sym one.0) in
-    t.answers ∙ ap kept (sym mine) ∙ ap (λ zs. kept (verdict a j (after_items a zs d))) there
+    let there : t.front ≡ items_at k front = front-at k q.items front i back t.front t.item t.back rises is (h.all ∙ t.is) (same ∙ t.same.position) in
+    let turned : kept (verdict a j c) ≡ kept (verdict a j (after_items a t.front d)) = t.answers ∙ ap kept (sym mine) in
+    turned ∙ ap (λ zs. kept (verdict a j (after_items a zs d))) there
 
 first_reply : (s : ℕ) (q : Asking) (vs : List ℕ → List Version) (cells : Cells) (j : Item) (js : List Item) (x : Cells) (r : Reply) → q.head.at.0 ≤ s → Rises position_of q.items → NumbersInOrder q.items → Ascends key_of x → Ascends key_of cells
     → StandsAll s q vs cells (j ∷ js) x → (ans : Answers q.head j x r.body) → IsTurnReply q cells (record { head = q.head; item = j; reply = r })

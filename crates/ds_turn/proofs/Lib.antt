@@ -13,6 +13,7 @@ pub mod Progress
 pub mod Reaches
 pub mod Refusing
 pub mod Replies
+pub mod RolledBack
 pub mod Settled
 pub mod Stamps
 pub mod Swaps

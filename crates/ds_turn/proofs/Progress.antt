@@ -1,7 +1,7 @@
 -- How far a batch got at each key.
-use Rattle.std.proofs.Common.{◌≡◌, ℕ, ◌≤◌, cond, inl, inr, List, [], ◌∷◌, ◌++◌, map, refl, sym, ap, ◌∙◌, subst, append_assoc}
+use Rattle.std.proofs.Common.{◌≡◌, ℕ, ◌≤◌, cond, inl, inr, true, false, cond, List, [], ◌∷◌, ◌++◌, map, refl, sym, ap, ◌∙◌, subst, append_assoc}
 use Rattle.std.proofs.lemmas.List.{append-nil}
-use Rattle.ds_base.specs.Ordered.{Ascends}
+use Rattle.ds_base.specs.Ordered.{key_eq, Ascends}
 use Rattle.ds_base.proofs.OrderedFacts.{eq_itself}
 use Rattle.ds_kind.specs.declared.batch.Item.{Item}
 use Rattle.ds_cell.specs.declared.entry.At.{At}
@@ -18,7 +18,7 @@ use Rattle.ds_turn.specs.Course.{ByBatch, ByOther, Course, CourseGives, course_a
 use Rattle.ds_turn.specs.Cuts.{ActsAs}
 use Rattle.ds_turn.specs.KeyIs.{KeyIs}
 use Rattle.ds_turn.specs.Partway.{AllLater, NumbersInOrder, Partway}
-use Rattle.ds_turn.specs.Progress.{BatchBegins, BatchEnds, BatchGoes, BatchRefused, CutsGoAgain, CutsGoOn, GoesTo, IsAgain, ProgressKept}
+use Rattle.ds_turn.specs.Progress.{BatchBegins, BatchEnds, BatchGoes, BatchStays, BatchWritten, BatchRefused, CutsGoAgain, CutsGoOn, GoesTo, IsAgain, ProgressKept}
 use Rattle.ds_turn.proofs.Again.{partway_begins, partway_foreign, partway_acts, partway_again}
 use Rattle.ds_turn.proofs.Parts.{part-verdict, part-after, rise-held}
 use Rattle.ds_turn.proofs.Courses.{and_turn-fine}
@@ -142,6 +142,27 @@ batch_goes s q acted after vs world cells course b low numbers foreign gives goe
   at = λ k. progress_kept s (at_of q.head 0) (course k) (acted k) (b.rest k) (after k) (vs k) (world k) (content_at k cells) (b.at k) low (foreign k) (subst NumbersInOrder (b.front k) (rise-held k q.items numbers)) (goes k) (gives k);
   rest = λ k. (goes-rest (course k) (acted k) (b.rest k) (after k) (goes k)).0;
   front = λ k. b.front k ∙ (goes-rest (course k) (acted k) (b.rest k) (after k) (goes k)).1;
+}
+
+pub batch_stays : BatchStays
+batch_stays s q acted vs world now cells b same = record {
+  ascends = b.ascends;
+  at = λ k. subst (λ c. Partway s (at_of q.head 0) (acted k) (vs k) c (content_at k cells)) (sym (same k)) (b.at k);
+  rest = b.rest;
+  front = b.front;
+}
+
+pub batch_written : BatchWritten
+batch_written s q acted vs world now cells key v b high same = record {
+  ascends = b.ascends;
+  at = λ k.
+      subst (λ c. Partway s (at_of q.head 0) (acted k) (cond (key_eq key k) (vs k ++ v ∷ []) (vs k)) c (content_at k cells)) (sym (same k))
+      (elim (key_eq key k) as (λ t. Partway s (at_of q.head 0) (acted k) (cond t (vs k ++ v ∷ []) (vs k)) (cond t (after_foreign v (world k)) (world k)) (content_at k cells)) [
+        | true ↦ partway_foreign s (at_of q.head 0) (acted k) (vs k) (world k) (content_at k cells) v (b.at k) high
+        | false ↦ b.at k
+      ]);
+  rest = b.rest;
+  front = b.front;
 }
 
 pub batch_ends : BatchEnds

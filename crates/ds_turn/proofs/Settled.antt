@@ -17,7 +17,7 @@ use Rattle.ds_turn.proofs.Courses.{acts_alone}
 use Rattle.ds_turn.proofs.KeyFacts.{empty_if, key_foreign}
 use Rattle.ds_turn.proofs.Swaps.{fold_swap}
 
-held-none : (txn : ℕ) (c : Content) → c.history ≡ [] → held txn c ≡ []
+pub held-none : (txn : ℕ) (c : Content) → c.history ≡ [] → held txn c ≡ []
 held-none txn c e = ap (λ h. cond (c.owner == txn) h []) e ∙ empty_if (c.owner == txn)
 
 held-by : (txn : ℕ) (c d : Content) → d.history ≡ c.history → (c.history ≡ []) ⊎ ((d.owner ≡ c.owner) × (d.epoch ≡ c.epoch)) → held txn d ≡ held txn c

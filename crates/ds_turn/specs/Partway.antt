@@ -1,5 +1,5 @@
 -- A batch under way at one key, whether or not its replies came in.
-use Rattle.std.specs.Prelude.{◌≡◌, ℕ, ◌<◌, ◌≤◌, true, List, [], ◌∷◌, ◌++◌}
+use Rattle.std.specs.Prelude.{◌≡◌, ℕ, ◌<◌, ◌≤◌, ◌⊎◌, None, true, List, [], ◌∷◌, ◌++◌}
 use Rattle.ds_kind.specs.Asks.{takes_number}
 use Rattle.ds_kind.specs.declared.batch.Item.{Item}
 use Rattle.ds_cell.specs.declared.entry.At.{At}
@@ -7,7 +7,7 @@ use Rattle.ds_cell.specs.declared.entry.Version.{Version}
 use Rattle.ds_cell.specs.declared.verdict.Verdict.TheVariants.{Refuse}
 use Rattle.ds_cell.specs.declared.verdict.Bit.{Bit}
 use Rattle.ds_cell.specs.declared.verdict.ActFault.{ActFault}
-use Rattle.ds_cell.specs.Change.{after_foreign}
+use Rattle.ds_cell.specs.Change.{settled, after_foreign}
 use Rattle.ds_cell.specs.Content.{Content, AllAbove, Rises, stamp_of}
 use Rattle.ds_cell.specs.Deed.{IsBitOf}
 use Rattle.ds_cell.specs.Laws.{Repeats}
@@ -80,3 +80,10 @@ PartwayRefused =
     → Partway s a acted vs c d → a.stamp.0 ≤ s → verdict a i c ≡ Refuse f
     → ((IsTooOld f → ⊥) → turn_of a (acted ++ i ∷ later) d ≡ TurnFails i.pos f)
     × (IsTooOld f → turn_of a (acted ++ i ∷ later) (with_versions vs d) ≡ TurnFails i.pos f)
+
+-- a rollback, whatever of the batch acted, leaves what a rollback of the store as it was before the batch leaves, where the
+-- transaction alone has an intent at the key; the foreign writes stay
+abbrev pub PartwayRolledBack : Type 0
+PartwayRolledBack =
+    (s : ℕ) (a : At) (acted : List Item) (vs : List Version) (c d : Content) → Partway s a acted vs c d → (d.history ≡ []) ⊎ (d.owner ≡ a.txn.0)
+    → KeyIs s (settled a.txn.0 None c) (with_versions vs (settled a.txn.0 None d))

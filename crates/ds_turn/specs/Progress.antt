@@ -1,6 +1,6 @@
 -- How far a batch got at each key: its items there act in their order, and any that acted may act again.
-use Rattle.std.specs.Prelude.{◌≡◌, ℕ, ◌≤◌, ◌⊎◌, List, [], ◌∷◌, ◌++◌, map}
-use Rattle.ds_base.specs.Ordered.{Ascends}
+use Rattle.std.specs.Prelude.{◌≡◌, ℕ, ◌<◌, ◌≤◌, if◌then◌else◌, ◌⊎◌, List, [], ◌∷◌, ◌++◌, map}
+use Rattle.ds_base.specs.Ordered.{key_eq, Ascends}
 use Rattle.ds_kind.specs.declared.batch.Item.{Item}
 use Rattle.ds_kind.specs.declared.reply.Reply.{Reply}
 use Rattle.ds_cell.specs.declared.entry.At.{At}
@@ -8,6 +8,7 @@ use Rattle.ds_cell.specs.declared.entry.Version.{Version}
 use Rattle.ds_cell.specs.declared.verdict.ActFault.{ActFault}
 use Rattle.ds_cell.specs.declared.verdict.Verdict.TheVariants.{Refuse}
 use Rattle.ds_cell.specs.Ask.{Cells, key_of, content_at}
+use Rattle.ds_cell.specs.Change.{after_foreign}
 use Rattle.ds_cell.specs.Content.{Content, Rises}
 use Rattle.ds_cell.specs.Store.{WriteAt, put_cell}
 use Rattle.ds_rule.specs.Asking.{Asking, Gives, ask_all, at_of}
@@ -77,6 +78,20 @@ BatchGoes =
     → ((k : List ℕ) → AllForeignAbove s (course k)) → ((k : List ℕ) → CourseGives (at_of q.head 0) (course k) (world k))
     → ((k : List ℕ) → GoesTo (course k) (acted k) (b.rest k) (after k))
     → BatchPartway s q after (λ k. vs k ++ foreign_writes (course k)) (λ k. course_after (at_of q.head 0) (course k) (world k)) cells
+
+-- what doesn't change what any key holds, as a split or a lease, changes nothing here
+abbrev pub BatchStays : Type 0
+BatchStays =
+    (s : ℕ) (q : Asking) (acted : List ℕ → List Item) (vs : List ℕ → List Version) (world now : List ℕ → Content) (cells : Cells)
+    → BatchPartway s q acted vs world cells → ((k : List ℕ) → now k ≡ world k) → BatchPartway s q acted vs now cells
+
+-- another client writes at one key
+abbrev pub BatchWritten : Type 0
+BatchWritten =
+    (s : ℕ) (q : Asking) (acted : List ℕ → List Item) (vs : List ℕ → List Version) (world now : List ℕ → Content) (cells : Cells) (key : List ℕ) (v : Version)
+    → BatchPartway s q acted vs world cells → s < v.stamp.0
+    → ((k : List ℕ) → now k ≡ (if key_eq key k then after_foreign v (world k) else world k))
+    → BatchPartway s q acted (λ k. if key_eq key k then vs k ++ v ∷ [] else vs k) now cells
 
 -- where all items acted at each key, the batch asked at once of the store is not refused, and leaves what the world
 -- holds, but for the foreign writes

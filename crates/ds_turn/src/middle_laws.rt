@@ -1,5 +1,5 @@
 //! The middle of a batch at one key: what each step makes of it.
-ghost use Rattle.ds_turn.specs.Partway.{PartwayActs, PartwayAgain, PartwayBegins, PartwayForeign, PartwayRefused};
+ghost use Rattle.ds_turn.specs.Partway.{PartwayActs, PartwayAgain, PartwayBegins, PartwayForeign, PartwayRefused, PartwayRolledBack};
 
 /// Does nothing. Its clause: before a batch nothing of it is done.
 pub fn partway_begins()
@@ -20,6 +20,12 @@ pub fn partway_acts()
 /// changes.
 pub fn partway_again()
     ensures { PartwayAgain }
+{}
+
+/// Does nothing. Its clause: a rollback in the middle of a batch, or after it failed, leaves what a
+/// rollback before the batch leaves, and the foreign writes since.
+pub fn partway_rolled_back()
+    ensures { PartwayRolledBack }
 {}
 
 /// Does nothing. Its clause: the next item is refused: the batch asked at once fails so at this key, as

@@ -1,6 +1,6 @@
 //! How far a batch got, at one key and at all keys, with losses and late copies.
 ghost use Rattle.ds_turn.specs.Deliveries.{PieceFails, PieceGoes};
-ghost use Rattle.ds_turn.specs.Progress.{BatchBegins, BatchEnds, BatchGoes, BatchRefused, CutsGoAgain, CutsGoOn, ProgressKept};
+ghost use Rattle.ds_turn.specs.Progress.{BatchBegins, BatchEnds, BatchGoes, BatchRefused, BatchStays, BatchWritten, CutsGoAgain, CutsGoOn, ProgressKept};
 
 /// Does nothing. Its clause: where the batch's items act in their order at a key, any of those that
 /// acted acts again, and none is refused, the world holds what the items leave of the store's content,
@@ -42,6 +42,18 @@ pub fn piece_goes()
 /// made first.
 pub fn piece_fails()
     ensures { PieceFails }
+{}
+
+/// Does nothing. Its clause: what changes no key, as a split, a merge, a lease or a move, leaves the
+/// batch as far along as it was.
+pub fn batch_stays()
+    ensures { BatchStays }
+{}
+
+/// Does nothing. Its clause: another client's write at one key joins those that came there since the
+/// batch began.
+pub fn batch_written()
+    ensures { BatchWritten }
 {}
 
 /// Does nothing. Its clause: a batch whose items all acted at each key, in whatever pieces and however
