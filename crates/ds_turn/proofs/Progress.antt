@@ -1,5 +1,5 @@
 -- How far a batch got at each key.
-use Rattle.std.proofs.Common.{◌≡◌, ℕ, ◌≤◌, cond, inl, inr, true, false, cond, List, [], ◌∷◌, ◌++◌, map, refl, sym, ap, ◌∙◌, subst, append_assoc}
+use Rattle.std.proofs.Common.{◌≡◌, ℕ, ◌≤◌, true, false, cond, inl, inr, List, [], ◌∷◌, ◌++◌, map, refl, sym, ap, ◌∙◌, subst, append_assoc}
 use Rattle.std.proofs.lemmas.List.{append-nil}
 use Rattle.ds_base.specs.Ordered.{key_eq, Ascends}
 use Rattle.ds_base.proofs.OrderedFacts.{eq_itself}
@@ -18,7 +18,7 @@ use Rattle.ds_turn.specs.Course.{ByBatch, ByOther, Course, CourseGives, course_a
 use Rattle.ds_turn.specs.Cuts.{ActsAs}
 use Rattle.ds_turn.specs.KeyIs.{KeyIs}
 use Rattle.ds_turn.specs.Partway.{AllLater, NumbersInOrder, Partway}
-use Rattle.ds_turn.specs.Progress.{BatchBegins, BatchEnds, BatchGoes, BatchStays, BatchWritten, BatchRefused, CutsGoAgain, CutsGoOn, GoesTo, IsAgain, ProgressKept}
+use Rattle.ds_turn.specs.Progress.{BlockGoes, BatchBegins, BatchEnds, BatchGoes, BatchStays, BatchWritten, BatchRefused, CutsGoAgain, CutsGoOn, GoesTo, IsAgain, ProgressKept}
 use Rattle.ds_turn.proofs.Again.{partway_begins, partway_foreign, partway_acts, partway_again}
 use Rattle.ds_turn.proofs.Parts.{part-verdict, part-after, rise-held}
 use Rattle.ds_turn.proofs.Courses.{and_turn-fine}
@@ -117,6 +117,45 @@ pub cuts_go_again : CutsGoAgain
 cuts_go_again items [] acted rest r cuts all ones = refl
 cuts_go_again items (j ∷ js) acted [] r cuts all ones = (again-at items j acted r cuts.0 all ones.0, cuts_go_again items js acted [] r cuts.1 all ones.1)
 cuts_go_again items (j ∷ js) acted (i ∷ rest) r cuts all ones = inl (again-at items j acted r cuts.0 all ones.0, cuts_go_again items js acted (i ∷ rest) r cuts.1 all ones.1)
+
+-- a block of a part
+
+each-left : (P : Item → Type 0) (xs ys : List Item) → Each P (xs ++ ys) → Each P xs × Each P ys
+each-left P [] ys all = (tt, all)
+each-left P (x ∷ xs) ys all = let r = each-left P xs ys all.1 in ((all.0, r.0), r.1)
+
+one-right : (n : ℕ) (xs ys : List ℕ) → IsOneOf n ys → IsOneOf n (xs ++ ys)
+one-right n [] ys one = one
+one-right n (x ∷ xs) ys one = inr (one-right n xs ys one)
+
+map-both : (xs ys : List Item) → map position_of (xs ++ ys) ≡ map position_of xs ++ map position_of ys
+map-both [] ys = refl
+map-both (x ∷ xs) ys = ap (λ zs. x.pos ∷ zs) (map-both xs ys)
+
+-- each of these positions stands among some
+each-position : (ns : List ℕ) (js : List Item) → ((n : ℕ) → IsOneOf n (map position_of js) → IsOneOf n ns) → Each (λ j. IsOneOf j.pos ns) js
+each-position ns [] all = tt
+each-position ns (j ∷ js) all = (all j.pos (inl refl), each-position ns js (λ n one. all n (inr one)))
+
+pub block_goes : BlockGoes
+block_goes items js bs ps ms acted rest r cuts all (inl none) at =
+    (acted, rest, subst (λ zs. GoesTo (map ByBatch zs) acted rest acted) (sym none) refl, at)
+block_goes items js bs ps ms acted rest r cuts all (inr same) (inl before) = (
+  bs ++ ps,
+  ms,
+  subst (λ zs. GoesTo (map ByBatch js) zs rest (bs ++ ps)) (sym before.0)
+      (subst (λ zs. GoesTo (map ByBatch js) bs zs (bs ++ ps)) (sym before.1) (cuts_go_on items js bs ps ms r cuts (each-left (λ i. IsOneOf i items) bs ps all).1 same)),
+  inr (refl, refl),
+)
+block_goes items js bs ps ms acted rest r cuts all (inr same) (inr past) = (
+  acted,
+  rest,
+  cuts_go_again items js acted rest r cuts (subst (Each (λ i. IsOneOf i items)) (sym past.0) all)
+      (each-position (map position_of acted) js (λ n one.
+          subst (λ zs. IsOneOf n (map position_of zs)) (sym past.0)
+          (subst (λ ns. IsOneOf n ns) (sym (map-both bs ps)) (one-right n (map position_of bs) (map position_of ps) (subst (λ ns. IsOneOf n ns) same one))))),
+  inr past,
+)
 
 -- all keys
 

@@ -54,6 +54,23 @@ CutsGoAgain =
     (items js acted rest : List Item) → Rises position_of items → Each (IsCut items) js → Each (λ i. IsOneOf i items) acted
     → Each (λ j. IsOneOf j.pos (map position_of acted)) js → GoesTo (map ByBatch js) acted rest acted
 
+-- as to one part of the batch, whose items at the key are ps, with bs of the parts before and ms of those that come: none of
+-- its items acted yet, or all did
+abbrev pub AtPart : List Item → List Item → List Item → List Item → List Item → Type 0
+AtPart bs ps ms acted rest = ((acted ≡ bs) × (rest ≡ ps ++ ms)) ⊎ ((acted ≡ bs ++ ps) × (rest ≡ ms))
+
+-- a piece has at the key all positions of the part, in their order, or nothing
+abbrev pub AllOrNone : List Item → List Item → Type 0
+AllOrNone js ps = (js ≡ []) ⊎ (map position_of js ≡ map position_of ps)
+
+-- so it stays whatever pieces are cut of the part, and however often one acts: pieces that cover the part key by key bring
+-- it from none to all
+abbrev pub BlockGoes : Type 0
+BlockGoes =
+    (items js bs ps ms acted rest : List Item) → Rises position_of items → Each (IsCut items) js → Each (λ i. IsOneOf i items) (bs ++ ps)
+    → AllOrNone js ps → AtPart bs ps ms acted rest
+    → (after : List Item) × (left : List Item) × GoesTo (map ByBatch js) acted rest after × AtPart bs ps ms after left
+
 -- at all keys
 
 -- the store held these cells before the batch; at each key the items of `acted` acted so far, the first ones that the

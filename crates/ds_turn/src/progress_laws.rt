@@ -1,6 +1,6 @@
 //! How far a batch got, at one key and at all keys, with losses and late copies.
 ghost use Rattle.ds_turn.specs.Deliveries.{PieceFails, PieceGoes};
-ghost use Rattle.ds_turn.specs.Progress.{BatchBegins, BatchEnds, BatchGoes, BatchRefused, BatchStays, BatchWritten, CutsGoAgain, CutsGoOn, ProgressKept};
+ghost use Rattle.ds_turn.specs.Progress.{BatchBegins, BatchEnds, BatchGoes, BatchRefused, BatchStays, BatchWritten, BlockGoes, CutsGoAgain, CutsGoOn, ProgressKept};
 
 /// Does nothing. Its clause: where the batch's items act in their order at a key, any of those that
 /// acted acts again, and none is refused, the world holds what the items leave of the store's content,
@@ -18,6 +18,13 @@ pub fn cuts_go_on()
 /// Does nothing. Its clause: a piece's items at a key, at positions of items that acted, act again.
 pub fn cuts_go_again()
     ensures { CutsGoAgain }
+{}
+
+/// Does nothing. Its clause: at a key of which a piece has all of its part's positions or none, the
+/// piece acts as the part's items there, in their turn or again: so none of them or all have acted,
+/// before it and after.
+pub fn block_goes()
+    ensures { BlockGoes }
 {}
 
 /// Does nothing. Its clause: before a batch nothing of it acted, at any key.
