@@ -25,7 +25,7 @@ use Rattle.ds_rule.specs.Pieces.{Each, position_of}
 use Rattle.ds_rule.specs.Turn.{TurnFails, IsNoRefusal, speaks_of, items_at, verdict, after_item, after_items, turn_of}
 use Rattle.ds_turn.specs.Alone.{IsTooOld}
 use Rattle.ds_turn.specs.Course.{ByBatch, Course, CourseGives, course_after, foreign_writes, with_versions}
-use Rattle.ds_turn.specs.Deliveries.{FailsInTurn, IsTurnReply, PieceFails, PieceGoes, PieceReplies, RepliesInTurn, Serves}
+use Rattle.ds_turn.specs.Deliveries.{BatchAnswers, FailsInTurn, IsTurnReply, PieceFails, PieceGoes, PieceReplies, RepliesInTurn, Serves}
 use Rattle.ds_turn.specs.Partway.{NumbersInOrder, Partway}
 use Rattle.ds_turn.specs.Progress.{BatchPartway, GoesTo, IsAgain}
 use Rattle.ds_turn.specs.Replies.{Answers, ComesAt}
@@ -33,9 +33,9 @@ use Rattle.ds_turn.proofs.Again.{partway_again}
 use Rattle.ds_turn.proofs.Parts.{part-verdict, rise-held}
 use Rattle.ds_turn.proofs.Failing.{at-true, at-false, first-item, stands_at}
 use Rattle.ds_turn.proofs.Keys.{IsDone, request-done, request-refused, before-fails, gives_at_keys, made-parts}
-use Rattle.ds_turn.proofs.Progress.{again-still, next-acts, one-more, placed, goes-rest, put-there, progress_kept}
+use Rattle.ds_turn.proofs.Progress.{batch_ends, again-still, next-acts, one-more, placed, goes-rest, put-there, progress_kept}
 use Rattle.ds_turn.proofs.Refusing.{acts-turn, acts-course, acts-writes, acts-foreign, partway_refused}
-use Rattle.ds_turn.proofs.Replies.{answers_in_turn, cut_answers, rest-given}
+use Rattle.ds_turn.proofs.Replies.{gathered_asks, answers_in_turn, cut_answers, rest-given}
 
 -- a list whose positions rise is split in one way at a position
 
@@ -326,3 +326,9 @@ each-turn q cells (a ∷ got) all front i back y us ts is before =
 pub replies_in_turn : RepliesInTurn
 replies_in_turn q cells got all front i back y us ts is before =
     each-sorted (λ a. Answers q.head a.item y a.reply.body) (at_position i.pos got) (each-turn q cells got all front i back y us ts is before)
+
+pub batch_answers : BatchAnswers
+batch_answers s q vs world cells got replies b all g =
+    let ends = batch_ends s q vs world cells b in
+    let same : replies ≡ ends.2 = gathered_asks q.head q.items cells ends.0 ends.1 ends.2 replies got b.ascends ends.3 (replies_in_turn q cells got all) g in
+    (ends.0, ends.1, ends.3 ∙ ap (Gives ends.0 ends.1) (sym same), ends.4, ends.5)

@@ -2,22 +2,24 @@
 use Rattle.std.proofs.Common.{◌≡◌, ℕ, ◌<◌, ◌≤◌, Bool, true, false, cond, ◌⊎◌, inl, inr, List, [], ◌∷◌, ◌++◌, refl, sym, ap, ◌∙◌, subst, arith}
 use Rattle.std.proofs.lemmas.List.Elements.{filter-append}
 use Rattle.ds_base.specs.Order.{key_lt, key_le}
-use Rattle.ds_base.proofs.OrderedFacts.{not_lt_of_le}
+use Rattle.ds_base.proofs.OrderedFacts.{le_of_not_lt, not_lt_of_le}
 use Rattle.ds_base.proofs.TestFacts.{not_both}
 use Rattle.ds_kind.specs.declared.batch.Item.{Item}
+use Rattle.ds_kind.specs.declared.reply.Failure.{Failure}
 use Rattle.ds_cell.specs.declared.entry.At.{At}
 use Rattle.ds_cell.specs.declared.entry.Written.{Written}
 use Rattle.ds_cell.specs.declared.verdict.ActFault.{ActFault}
 use Rattle.ds_cell.specs.declared.verdict.Bit.{Bit}
 use Rattle.ds_cell.specs.declared.verdict.Verdict.{Verdict}
 use Rattle.ds_cell.specs.declared.verdict.Verdict.TheVariants.{Keep, Put, Refuse}
-use Rattle.ds_cell.specs.Ask.{content_at}
+use Rattle.ds_cell.specs.Ask.{Cells, content_at}
 use Rattle.ds_cell.specs.Content.{Content, AllAbove, Rises}
-use Rattle.ds_rule.specs.Asking.{Fails, ask_all, at_of, failure_of}
+use Rattle.ds_rule.specs.Asking.{Asking, Fails, ask_all, at_of, failure_of}
 use Rattle.ds_rule.specs.Pieces.{IsOneOf, position_of}
 use Rattle.ds_rule.specs.Turn.{Turn, TurnFails, TurnGives, IsNoRefusal, verdict, after_item, after_items, turn_of, speaks_of, items_at}
 use Rattle.ds_turn.specs.Course.{NoneRefused}
-use Rattle.ds_turn.specs.Failing.{FailsTurn, TurnsFail}
+use Rattle.ds_turn.specs.Failing.{FailsFirst, FailsTurn, TurnsFail}
+use Rattle.ds_turn.specs.Keys.{FailsSomewhere}
 use Rattle.ds_turn.proofs.Courses.{and_turn-fine, and_turn-refused, not-fine}
 use Rattle.ds_turn.proofs.Keys.{first_fails, fails_at_key}
 use Rattle.ds_turn.proofs.TooOld.{items_refused, more_fine}
@@ -208,37 +210,55 @@ past-front a (x ∷ xs) ys d n g none h =
       | inr later ↦ past-front a xs ys (after_item a x d) n g (record { bits = parts.1; writes = parts.2; gives = parts.3 }) later.1
     ]
 
-not-below : (xs : List Item) (i : Item) (back : List Item) (x : Item) → Rises position_of (xs ++ i ∷ back) → IsOneOf x (i ∷ back) → i.pos ≤ x.pos
-not-below [] i back x r (inl same) = subst (λ z. i.pos ≤ z.pos) (sym same) (omega arith)
-not-below [] i back x r (inr more) = let low = above-all i.pos back x r.0 more in omega (arith, low)
-not-below (y ∷ ys) i back x r one = not-below ys i back x r.1 one
+rises-right : (xs ys : List Item) → Rises position_of (xs ++ ys) → Rises position_of ys
+rises-right [] ys r = r
+rises-right (x ∷ xs) ys r = rises-right xs ys r.1
 
--- what fails from an item on fails at its position or later
-fails-high : (a : At) (k : List ℕ) (front : List Item) (i : Item) (back : List Item) (d : Content) (n : ℕ) (g : ActFault)
-    → Rises position_of (front ++ i ∷ back) → turn_of a (items_at k (i ∷ back)) d ≡ TurnFails n g → i.pos ≤ n
-fails-high a k front i back d n g rises h =
+-- what fails from an item on fails at the item, or later
+fails-there : (a : At) (k : List ℕ) (i : Item) (back : List Item) (d : Content) (n : ℕ) (g : ActFault)
+    → Rises position_of (i ∷ back) → turn_of a (items_at k (i ∷ back)) d ≡ TurnFails n g → (i.pos < n) ⊎ ((i.pos ≡ n) × (speaks_of k i ≡ true) × (verdict a i d ≡ Refuse g))
+fails-there a k i back d n g rises h =
     let r = failed_in a (items_at k (i ∷ back)) d n g h in
     let s = stands_at k (i ∷ back) r.front r.item r.back r.is in
-    subst (λ z. i.pos ≤ z) r.position (not-below front i back r.item rises (subst (IsOneOf r.item) (sym s.is) (in-middle s.front r.item s.back)))
+    by r.front r.item r.position r.refused s.front s.back s.is s.before s.here
+  where
+    by : (xs : List Item) (w : Item) → w.pos ≡ n → verdict a w (after_items a xs d) ≡ Refuse g → (us vs : List Item) → i ∷ back ≡ us ++ w ∷ vs → items_at k us ≡ xs → speaks_of k w ≡ true
+        → (i.pos < n) ⊎ ((i.pos ≡ n) × (speaks_of k i ≡ true) × (verdict a i d ≡ Refuse g))
+    by xs w at refused [] vs is before here =
+        let same : i ≡ w = (first-item i w back vs is).0 in
+        inr (ap position_of same ∙ at, subst (λ z. speaks_of k z ≡ true) (sym same) here, ap (λ z. verdict a z d) same ∙ ap (λ zs. verdict a w (after_items a zs d)) before ∙ refused)
+    by xs w at refused (u ∷ us) vs is before here =
+        let later : back ≡ us ++ w ∷ vs = (first-item i u back (us ++ w ∷ vs) is).1 in
+        inl (subst (λ z. i.pos < z) at (above-all i.pos back w rises.0 (subst (IsOneOf w) (sym later) (in-middle us w vs))))
 
-pub fails_turn : FailsTurn
-fails_turn q cells failure rises asc h =
+not-above : (j k : List ℕ) → (key_lt j k ≡ true → ⊥) → key_le k j ≡ true
+not-above j k never =
+    elim (key_lt j k) as (λ t. key_lt j k ≡ t → key_le k j ≡ true) [
+      | true ↦ λ e. absurd (never e)
+      | false ↦ λ e. le_of_not_lt j k e
+    ] refl
+
+first-of : (q : Asking) (cells : Cells) (failure : Failure) → Rises position_of q.items → (r : FailsSomewhere q.head q.items cells failure) → FailsFirst q r.key cells r.item.pos r.fault
+first-of q cells failure rises r =
     let a = at_of q.head 0 in
-    let r = fails_at_key q.head q.items cells failure asc h in
-    let rises-so : Rises position_of (r.front ++ r.item ∷ r.back) = subst (Rises position_of) r.is rises in
+    let high : Rises position_of (r.item ∷ r.back) = rises-right r.front (r.item ∷ r.back) (subst (Rises position_of) r.is rises) in
     record {
-      key = r.key;
-      position = r.item.pos;
-      fault = r.fault;
       here =
           ap (λ zs. turn_of a (items_at r.key zs) (content_at r.key cells)) r.is
           ∙ ap (λ zs. turn_of a zs (content_at r.key cells)) (at_split r.key r.front r.item r.back r.here)
           ∙ items_refused a (items_at r.key r.front) r.item (items_at r.key r.back) (content_at r.key cells) (r.before r.key).bits (r.before r.key).writes r.fault (r.before r.key).gives r.refused;
-      soonest = λ j n g fails.
-          fails-high a j r.front r.item r.back (after_items a (items_at j r.front) (content_at j cells)) n g rises-so
+      first = λ j n g fails.
+          elim (fails-there a j r.item r.back (after_items a (items_at j r.front) (content_at j cells)) n g high
           (past-front a (items_at j r.front) (items_at j (r.item ∷ r.back)) (content_at j cells) n g (r.before j)
           (ap (λ zs. turn_of a zs (content_at j cells)) (sym (filter-append (speaks_of j) r.front (r.item ∷ r.back)))
           ∙ ap (λ zs. turn_of a (items_at j zs) (content_at j cells)) (sym r.is)
-          ∙ fails));
-      says = r.says;
+          ∙ fails))) [
+            | inl later ↦ inl later
+            | inr same ↦ inr (same.0, not-above j r.key (λ low. not-fine (verdict a r.item (after_items a (items_at j r.front) (content_at j cells))) g same.2 (r.below j low same.1)))
+          ];
     }
+
+pub fails_turn : FailsTurn
+fails_turn q cells failure rises asc h =
+    let r = fails_at_key q.head q.items cells failure asc h in
+    record { key = r.key; position = r.item.pos; fault = r.fault; first = first-of q cells failure rises r; says = r.says }

@@ -3,9 +3,10 @@ use Rattle.std.proofs.Common.{◌≡◌, ℕ, Bool, true, false, cond, List, [],
 use Rattle.ds_base.specs.Order.{key_lt, holds, after}
 use Rattle.ds_base.specs.Ordered.{key_eq, AllOver, Ascends, at_key, between}
 use Rattle.ds_base.specs.declared.value.Value.{Value}
-use Rattle.ds_base.proofs.TestFacts.{never}
-use Rattle.ds_base.proofs.KeyOrder.{point-holds}
+use Rattle.ds_base.proofs.TestFacts.{never, not_both}
+use Rattle.ds_base.proofs.KeyOrder.{point-holds, key_lt-irrefl, key_lt-trans}
 use Rattle.ds_base.proofs.OrderedFacts.{eq_same, eq_itself, at-none, ascends-between, at_key-between}
+use Rattle.ds_kind.specs.Reach.{extent_of}
 use Rattle.ds_kind.specs.Request.{span_of}
 use Rattle.ds_kind.specs.declared.batch.Head.{Head}
 use Rattle.ds_kind.specs.declared.batch.Item.{Item}
@@ -25,6 +26,7 @@ use Rattle.ds_cell.specs.Change.{wrote}
 use Rattle.ds_cell.specs.Content.{Content, no_content}
 use Rattle.ds_cell.specs.Deed.{content_after, decide, look_of}
 use Rattle.ds_cell.specs.Kinds.{gone, gone_of}
+use Rattle.ds_cell.specs.KeyProofs.{quiet}
 use Rattle.ds_cell.specs.LawProofs.{own_span, guarded-keep}
 use Rattle.ds_cell.specs.Requests.{deed_of, ask_request}
 use Rattle.ds_cell.specs.Seen.{own, held, newest, under, value_seen, unless_written, newest_from, too_old}
@@ -38,6 +40,7 @@ use Rattle.ds_turn.specs.Course.{NoneRefused}
 use Rattle.ds_turn.specs.Keys.{FailsAtKey, FailsSomewhere, FirstFails, GivesAtKeys, KeysGive}
 use Rattle.ds_turn.proofs.Again.{did_fine}
 use Rattle.ds_turn.proofs.Courses.{and_turn-fine}
+use Rattle.ds_turn.proofs.Reaches.{ActsAt, ActsOver, acts_where, ask_point, ask_over}
 
 abbrev pub Bits : Type 0
 Bits = List (List ℕ × Bit)
@@ -518,6 +521,57 @@ request-refused (ResolveIntentRange a) at cells k f asc h = over-refused (Resolv
 request-refused (AdminSplit a) at cells k f asc h = at-refused (AdminSplit a) at a.key cells k f h
 request-refused (AdminTransferLease a) at cells k f asc h = at-refused (AdminTransferLease a) at a.key cells k f h
 
+-- and at no lower key
+
+one-below : (q k : List ℕ) (v : Verdict) (r : Asked) (f : ActFault) → one_more q v r ≡ Failed k f → (q ≡ k) ⊎ (IsNoRefusal v × (r ≡ Failed k f))
+one-below q k (Refuse g) r f h = let p : q ≡ k = cc in inl p
+one-below q k (Keep b) (Failed x g) f h = inr (tt, h)
+one-below q k (Put w b) (Failed x g) f h = inr (tt, h)
+one-below q k (Keep b) (Gave bs ws) f h = cc
+one-below q k (Put w b) (Gave bs ws) f h = cc
+
+not-both-ways : {G : Type 0} (k q : List ℕ) → key_lt k q ≡ true → key_lt q k ≡ true → G
+not-both-ways k q up down = not_both (key_lt k k) (key_lt-trans k q k up down) (key_lt-irrefl k)
+
+each-below : (d : Content → Verdict) (k : List ℕ) (f : ActFault) (ps : Cells) → Ascends key_of ps → ask_each d ps ≡ Failed k f → (q : List ℕ) (p : Cell) → at_key key_of q ps ≡ Some p → key_lt q k ≡ true → IsNoRefusal (d p.1)
+each-below d k f [] asc h q p there low = cc
+each-below d k f (y ∷ ys) asc h q p there low =
+    elim (key_eq y.0 q) as (λ t. key_eq y.0 q ≡ t → cond t (Some y) (at_key key_of q ys) ≡ Some p → IsNoRefusal (d p.1)) [
+      | true ↦ λ e g. elim (one-below y.0 k (d y.1) (ask_each d ys) f h) [
+        | inl same ↦ not-both-ways k k (subst (λ z. key_lt z k ≡ true) (sym (eq_same y.0 q e) ∙ same) low) (subst (λ z. key_lt z k ≡ true) (sym (eq_same y.0 q e) ∙ same) low)
+        | inr rest ↦ subst (λ z. IsNoRefusal (d z.1)) (some-same y p g) rest.0
+      ]
+      | false ↦ λ e g. elim (one-below y.0 k (d y.1) (ask_each d ys) f h) [
+        | inl same ↦ not-both-ways y.0 q (over-there y.0 q p ys asc.0 g) (subst (λ z. key_lt q z ≡ true) (sym same) low)
+        | inr rest ↦ each-below d k f ys asc.1 rest.1 q p g low
+      ]
+    ] refl there
+
+quiet-fine : (v : Verdict) → quiet v ≡ true → IsNoRefusal v
+quiet-fine (Keep b) h = tt
+quiet-fine (Put w b) h = cc
+quiet-fine (Refuse f) h = cc
+
+-- the keys that a request speaks of, below the one at which it failed
+pub request-below : (r : Request) (at : At) (cells : Cells) (k : List ℕ) (f : ActFault) → Ascends key_of cells → ask_request r at cells ≡ Failed k f → Below r at cells k
+request-below r at cells k f asc h q low here = by (acts_where r)
+  where
+    over : (o : ActsOver r) → holds o.start o.end q ≡ true → (c : Option Cell) → at_key key_of q cells ≡ c → IsNoRefusal (deed_of r at (content_at q cells))
+    over o in-span None e = subst (λ c. IsNoRefusal (deed_of r at c)) (sym (ap content_of e)) (quiet-fine (deed_of r at no_content) (o.still at))
+    over o in-span (Some p) e =
+        subst (λ c. IsNoRefusal (deed_of r at c)) (sym (ap content_of e))
+        (each-below (deed_of r at) k f (between key_of o.start o.end cells) (ascends-between key_of o.start o.end cells asc) (sym (ask_over r at cells o.start o.end o.reach) ∙ h) q p
+        (at_key-between key_of o.start o.end q cells ∙ ap (λ t. cond t (at_key key_of q cells) None) in-span ∙ e) low)
+
+    by : ActsAt r ⊎ ActsOver r → IsNoRefusal (deed_of r at (content_at q cells))
+    by (inl p) =
+        let same : q ≡ p.key = point-holds p.key q (subst (λ z. holds (extent_of z).start (extent_of z).end q ≡ true) p.reach here) in
+        elim (one-below p.key k (deed_of r at (content_at p.key cells)) (Gave [] []) f (sym (ask_point r at cells p.key p.reach) ∙ h)) [
+          | inl key ↦ not-both-ways k k (subst (λ z. key_lt z k ≡ true) (same ∙ key) low) (subst (λ z. key_lt z k ≡ true) (same ∙ key) low)
+          | inr rest ↦ subst (λ z. IsNoRefusal (deed_of r at (content_at z cells))) (sym same) rest.0
+        ]
+    by (inr o) = over o (subst (λ z. holds (extent_of z).start (extent_of z).end q ≡ true) o.reach here) (at_key key_of q cells) refl
+
 pub before-fails : (ws : List WriteAt) (rs : List Reply) (m : Made) (f : Failure) → and_before ws rs m ≡ Fails f → m ≡ Fails f
 before-fails ws rs (Fails g) f h = h
 before-fails ws rs (Gives out vs ts) f h = cc
@@ -559,6 +613,7 @@ fails_at_key h (i ∷ is) cells f asc e = by (λ next up rest. fails_at_key h is
           before = λ q. record { bits = []; writes = []; gives = refl };
           here = there.0;
           refused = there.1;
+          below = request-below i.request (at_of h i.seq.0) cells k g asc d;
           says = failed-failure (failure_of i.pos k g) f (sym (ap (λ a. and_then (made_by h i a cells) (ask_all h is)) d) ∙ e);
         }
     by again (Gave bs us) d =
@@ -576,5 +631,6 @@ fails_at_key h (i ∷ is) cells f asc e = by (λ next up rest. fails_at_key h is
           before = λ q. did-more h i r.front cells next q (one.1 q) (r.before q);
           here = r.here;
           refused = ap (verdict (at_of h 0) r.item) (left-more h i r.front cells next r.key (one.1 r.key)) ∙ r.refused;
+          below = λ q low there. subst IsNoRefusal (sym (ap (verdict (at_of h 0) r.item) (left-more h i r.front cells next q (one.1 q)))) (r.below q low there);
           says = r.says;
         }

@@ -10,11 +10,13 @@ use Rattle.ds_cell.specs.Ask.{Cells, key_of, content_at}
 use Rattle.ds_cell.specs.Content.{Content, Rises}
 use Rattle.ds_cell.specs.Store.{WriteAt, put_cell}
 use Rattle.ds_rule.specs.Asking.{Asking, Gives, Fails, ask_all, failure_of}
+use Rattle.ds_rule.specs.Gathered.{Gathered}
 use Rattle.ds_rule.specs.Journal.{Accepted, pairs}
 use Rattle.ds_rule.specs.Pieces.{Each, IsCut, position_of}
 use Rattle.ds_rule.specs.Turn.{items_at, FailsAt}
 use Rattle.ds_turn.specs.Alone.{IsTooOld}
 use Rattle.ds_turn.specs.Course.{ByBatch, with_versions}
+use Rattle.ds_turn.specs.KeyIs.{KeyIs}
 use Rattle.ds_turn.specs.Partway.{NumbersInOrder}
 use Rattle.ds_turn.specs.Progress.{BatchPartway, GoesTo}
 use Rattle.ds_turn.specs.Replies.{AllInTurn, Answers}
@@ -75,3 +77,13 @@ PieceFails =
     → (b : BatchPartway s q acted vs world cells) → q.head.at.0 ≤ s → NumbersInOrder q.items
     → (js : List Item) (x : Cells) (failure : Failure) → Serves q acted b.rest after world js x → ask_all q.head js x ≡ Fails failure
     → FailsInTurn q vs cells failure
+
+-- at the end of a batch of a transaction: all its items acted at each key, and each accepted reply is that of its turn. Then
+-- the store gives these replies, gathered, to the batch asked at once, and holds afterwards what the world holds, but for
+-- the foreign writes since the batch began
+abbrev pub BatchAnswers : Type 0
+BatchAnswers =
+    (s : ℕ) (q : Asking) (vs : List ℕ → List Version) (world : List ℕ → Content) (cells : Cells) (got : List Accepted) (replies : List Reply)
+    → BatchPartway s q (λ k. items_at k q.items) vs world cells → Each (IsTurnReply q cells) got → Gathered got q.items replies
+    → (out : Cells) × (ws : List WriteAt) × (ask_all q.head q.items cells ≡ Gives out ws replies) × Ascends key_of out
+    × ((k : List ℕ) → KeyIs s (world k) (with_versions (vs k) (content_at k out)))

@@ -1,5 +1,5 @@
 -- A batch fails where its turn at a key fails: the item that comes first, and of its keys the least.
-use Rattle.std.specs.Prelude.{◌≡◌, ℕ, ◌<◌, ◌≤◌, ◌⊎◌, List, true}
+use Rattle.std.specs.Prelude.{◌≡◌, ℕ, ◌<◌, ◌⊎◌, List, true}
 use Rattle.ds_base.specs.Order.{key_le}
 use Rattle.ds_base.specs.Ordered.{Ascends}
 use Rattle.ds_kind.specs.declared.reply.Failure.{Failure}
@@ -21,17 +21,15 @@ TurnsFail =
     (q : Asking) (k : List ℕ) (cells : Cells) (p : ℕ) (f : ActFault) → Rises position_of q.items → Ascends key_of cells → FailsFirst q k cells p f
     → ask_all q.head q.items cells ≡ Fails (failure_of p k f)
 
--- the failure is that of a turn, at a position that no turn fails before
-pub record FailsSoonest (q : Asking) (cells : Cells) (failure : Failure) : Type 0 where
+-- and where it failed, asked at once, it failed as the first of its turns
+pub record FailedFirst (q : Asking) (cells : Cells) (failure : Failure) : Type 0 where
   pub key : List ℕ
   pub position : ℕ
   pub fault : ActFault
-  pub here : FailsAt q key cells position fault
-  pub soonest : (j : List ℕ) (n : ℕ) (g : ActFault) → FailsAt q j cells n g → position ≤ n
+  pub first : FailsFirst q key cells position fault
   pub says : failure ≡ failure_of position key fault
 
--- and where it failed, asked at once, it failed so
 abbrev pub FailsTurn : Type 0
 FailsTurn =
     (q : Asking) (cells : Cells) (failure : Failure) → Rises position_of q.items → Ascends key_of cells → ask_all q.head q.items cells ≡ Fails failure
-    → FailsSoonest q cells failure
+    → FailedFirst q cells failure

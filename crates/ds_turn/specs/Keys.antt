@@ -47,6 +47,7 @@ pub record FailsSomewhere (h : Head) (items : List Item) (cells : Cells) (failur
   pub before : (q : List ℕ) → NoneRefused (at_of h 0) (items_at q front) (content_at q cells)
   pub here : speaks_of key item ≡ true
   pub refused : verdict (at_of h 0) item (after_items (at_of h 0) (items_at key front) (content_at key cells)) ≡ Refuse fault
+  pub below : (q : List ℕ) → key_lt q key ≡ true → speaks_of q item ≡ true → IsNoRefusal (verdict (at_of h 0) item (after_items (at_of h 0) (items_at q front) (content_at q cells)))
   pub says : failure ≡ failure_of item.pos key fault
 
 abbrev pub FailsAtKey : Type 0

@@ -33,8 +33,8 @@ pub fn turns_fail()
     ensures { TurnsFail }
 {}
 
-/// Does nothing. Its clause: a batch that failed where it was asked at once failed as its turn at some
-/// key, and no turn fails at an earlier position.
+/// Does nothing. Its clause: a batch that failed where it was asked at once failed so: as its first turn
+/// that fails, by position and then by key.
 pub fn fails_turn()
     ensures { FailsTurn }
 {}

@@ -1,5 +1,5 @@
 //! The replies of a batch's cuts, and those of the batch asked at once.
-ghost use Rattle.ds_turn.specs.Deliveries.{PieceReplies, RepliesInTurn};
+ghost use Rattle.ds_turn.specs.Deliveries.{BatchAnswers, PieceReplies, RepliesInTurn};
 ghost use Rattle.ds_turn.specs.Replies.{AnswersInTurn, CutAnswers, GatheredAsks, JoinsAnswer};
 
 /// Does nothing. Its clause: an item that is not refused at a key in the middle of a batch answers there
@@ -29,6 +29,13 @@ pub fn piece_replies()
 /// position.
 pub fn replies_in_turn()
     ensures { RepliesInTurn }
+{}
+
+/// Does nothing. Its clause: a batch of a transaction whose items all acted at each key, in whatever
+/// pieces and however often, beside whatever else happened: the store asked at once gives the gathered
+/// replies, and holds afterwards what the world holds but for the foreign writes since.
+pub fn batch_answers()
+    ensures { BatchAnswers }
 {}
 
 /// Does nothing. Its clause: replies gathered of cuts that each answer in their turn are those of the
