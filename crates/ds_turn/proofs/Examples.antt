@@ -79,7 +79,7 @@ refused_in_disorder = refl
 not_in_the_store : turn_of of_txn (puts 0 1 ∷ []) (with_versions (foreign 7 ∷ []) (record another_intent { waiting = [] })) ≡ TurnFails 0 (TooOld (record { 0 = 7 })) → ⊥
 not_in_the_store h = cc
 
--- a piece_after without a transaction that is asked again, after it was settled, finds its own version in its way
+-- a piece without a transaction that is asked again, after it was settled, finds its own version in its way
 settled_and_again : turn_of of_none (puts 0 1 ∷ []) (piece_after of_none (puts 0 1 ∷ []) no_content) ≡ TurnFails 0 (TooOld (record { 0 = 5 }))
 settled_and_again = refl
 
@@ -90,7 +90,7 @@ read_first = refl
 read_again : turn_of of_txn (gets 0 1 ∷ []) (after_items of_txn (gets 0 1 ∷ puts 1 1 ∷ []) no_content) ≡ TurnGives ((0, Shown (Some (Int (pos 1)))) ∷ []) []
 read_again = refl
 
--- two keys, each with a foreign write after the first item course_turn at 97 and before the second acts at 98: with both made
+-- two keys, each with a foreign write after the first item acted at 97 and before the second acts at 98: with both made
 -- first, the batch fails at the first item; with that of 98 alone, it fails as in the world
 abbrev two_keys : List Item
 two_keys = record { pos = 0; seq = record { 0 = 1 }; request = Put (record { key = 97 ∷ []; value = Int (pos 1) }) } ∷ record { pos = 1; seq = record { 0 = 2 }; request = Put (record { key = 98 ∷ []; value = Int (pos 2) }) } ∷ []

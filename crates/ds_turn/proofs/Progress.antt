@@ -152,8 +152,8 @@ block_goes items js bs ps ms acted rest r cuts all (inr same) (inr past) = (
   rest,
   cuts_go_again items js acted rest r cuts (subst (Each (λ i. IsOneOf i items)) (sym past.0) all)
       (each-position (map position_of acted) js (λ n one.
-          subst (λ zs. IsOneOf n (map position_of zs)) (sym past.0)
-          (subst (λ ns. IsOneOf n ns) (sym (map-both bs ps)) (one-right n (map position_of bs) (map position_of ps) (subst (λ ns. IsOneOf n ns) same one))))),
+      subst (λ zs. IsOneOf n (map position_of zs)) (sym past.0)
+      (subst (λ ns. IsOneOf n ns) (sym (map-both bs ps)) (one-right n (map position_of bs) (map position_of ps) (subst (λ ns. IsOneOf n ns) same one))))),
   inr past,
 )
 

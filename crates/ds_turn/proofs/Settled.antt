@@ -65,7 +65,7 @@ settled-more s commit (Some w) vs e by all none =
     one None by = refl
     one (Some t) by = fold_swap s e.versions vs (record { stamp = t; value = w.value }) by all
 
--- a piece_after as a course
+-- a piece as a course
 
 abbrev whole : List Version → List Item → Course
 whole [] is = map ByBatch is
