@@ -4,6 +4,9 @@ use Rattle.std.proofs.lemmas.Bool.{eqb-true}
 use Rattle.std.proofs.lemmas.List.{append-nil}
 use Rattle.ds_base.specs.Order.{key_lt}
 use Rattle.ds_base.specs.Ordered.{Ascends}
+use Rattle.ds_kind.specs.Request.{span_of}
+use Rattle.ds_kind.specs.declared.batch.Head.{Head}
+use Rattle.ds_kind.specs.declared.request.Request.{Request}
 use Rattle.ds_kind.specs.declared.batch.Item.{Item}
 use Rattle.ds_kind.specs.declared.reply.Failure.{Failure}
 use Rattle.ds_kind.specs.declared.reply.Reply.{Reply}
@@ -18,14 +21,16 @@ use Rattle.ds_cell.specs.Replies.{body_of}
 use Rattle.ds_cell.specs.RepeatProofs.{kept}
 use Rattle.ds_cell.specs.Requests.{ask_request}
 use Rattle.ds_cell.specs.Store.{WriteAt, write_all, under_number}
-use Rattle.ds_rule.specs.Asking.{Asking, Gives, Fails, and_then, made_by, ask_all, at_of, failure_of}
+use Rattle.ds_rule.specs.Asking.{Asking, Made, Gives, Fails, and_before, and_then, made_by, ask_item, ask_all, at_of, failure_of}
+use Rattle.ds_rule.specs.Serve.{resolves, resolved_for, and_left, serve}
+use Rattle.ds_rule.specs.declared.record.TxnRecord.{TxnRecord}
 use Rattle.ds_rule.specs.Gathered.{begins_at, put_by_start, by_start, is_at, at_position}
 use Rattle.ds_rule.specs.Journal.{Accepted, pairs}
 use Rattle.ds_rule.specs.Pieces.{Each, position_of}
 use Rattle.ds_rule.specs.Turn.{TurnFails, IsNoRefusal, speaks_of, items_at, verdict, after_item, after_items, turn_of}
 use Rattle.ds_turn.specs.Alone.{IsTooOld}
 use Rattle.ds_turn.specs.Course.{ByBatch, Course, CourseGives, course_after, foreign_writes, with_versions}
-use Rattle.ds_turn.specs.Deliveries.{BatchAnswers, FailsInTurn, IsTurnReply, PieceFails, PieceGoes, PieceReplies, RepliesInTurn, Serves}
+use Rattle.ds_turn.specs.Deliveries.{ServesAsked, BatchAnswers, FailsInTurn, IsTurnReply, PieceFails, PieceGoes, PieceReplies, RepliesInTurn, Serves}
 use Rattle.ds_turn.specs.Partway.{NumbersInOrder, Partway}
 use Rattle.ds_turn.specs.Progress.{BatchPartway, GoesTo, IsAgain}
 use Rattle.ds_turn.specs.Replies.{Answers, ComesAt}
@@ -36,6 +41,18 @@ use Rattle.ds_turn.proofs.Keys.{IsDone, request-done, request-refused, before-fa
 use Rattle.ds_turn.proofs.Progress.{batch_ends, again-still, next-acts, one-more, placed, goes-rest, put-there, progress_kept}
 use Rattle.ds_turn.proofs.Refusing.{acts-turn, acts-course, acts-writes, acts-foreign, partway_refused}
 use Rattle.ds_turn.proofs.Replies.{gathered_asks, answers_in_turn, cut_answers, rest-given}
+
+-- served as a store is asked
+
+asked-step : (records : List TxnRecord) (h : Head) (r : Request) (js : List Item) (m : Made) → resolves r ≡ None → ((x : Cells) → serve records h None js x ≡ ask_all h js x)
+    → and_left records None r m (λ rest now. serve records h rest js now) ≡ and_then m (ask_all h js)
+asked-step records h r js (Fails f) none later = refl
+asked-step records h r js (Gives out ws rs) none later =
+    ap (and_before ws rs) (ap (λ o. serve records h None js (resolved_for records (span_of r) o out)) none ∙ later out)
+
+pub serves_asked : ServesAsked
+serves_asked records h [] x none = refl
+serves_asked records h (j ∷ js) x none = asked-step records h j.request js (ask_item h j x) none.0 (λ out. serves_asked records h js out none.1)
 
 -- a list whose positions rise is split in one way at a position
 

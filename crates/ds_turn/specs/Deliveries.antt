@@ -1,6 +1,7 @@
 -- What a delivered piece makes of a batch under way: how far the batch is then, and what its replies say.
-use Rattle.std.specs.Prelude.{◌≡◌, ℕ, ◌≤◌, ◌⊎◌, List, [], ◌∷◌, ◌++◌, map}
+use Rattle.std.specs.Prelude.{◌≡◌, None, ℕ, ◌≤◌, ◌⊎◌, List, [], ◌∷◌, ◌++◌, map}
 use Rattle.ds_base.specs.Ordered.{Ascends}
+use Rattle.ds_kind.specs.declared.batch.Head.{Head}
 use Rattle.ds_kind.specs.declared.batch.Item.{Item}
 use Rattle.ds_kind.specs.declared.reply.Failure.{Failure}
 use Rattle.ds_kind.specs.declared.reply.Reply.{Reply}
@@ -13,6 +14,8 @@ use Rattle.ds_rule.specs.Asking.{Asking, Gives, Fails, ask_all, failure_of}
 use Rattle.ds_rule.specs.Gathered.{Gathered}
 use Rattle.ds_rule.specs.Journal.{Accepted, pairs}
 use Rattle.ds_rule.specs.Pieces.{Each, IsCut, position_of}
+use Rattle.ds_rule.specs.Serve.{resolves, serve}
+use Rattle.ds_rule.specs.declared.record.TxnRecord.{TxnRecord}
 use Rattle.ds_rule.specs.Turn.{items_at, FailsAt}
 use Rattle.ds_turn.specs.Alone.{IsTooOld}
 use Rattle.ds_turn.specs.Course.{ByBatch, with_versions}
@@ -20,6 +23,11 @@ use Rattle.ds_turn.specs.KeyIs.{KeyIs}
 use Rattle.ds_turn.specs.Partway.{NumbersInOrder}
 use Rattle.ds_turn.specs.Progress.{BatchPartway, GoesTo}
 use Rattle.ds_turn.specs.Replies.{AllInTurn, Answers}
+
+-- without a limit, and where no item resolves intents, a range serves items as a store is asked, whatever the records say
+abbrev pub ServesAsked : Type 0
+ServesAsked =
+    (records : List TxnRecord) (h : Head) (js : List Item) (x : Cells) → Each (λ j. resolves j.request ≡ None) js → serve records h None js x ≡ ask_all h js x
 
 -- a range that holds x serves these items of the batch: x is what the world holds where they act, and at each key they
 -- act in their turn, or again

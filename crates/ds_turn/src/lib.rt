@@ -22,7 +22,7 @@ pub use middle_laws::{
 };
 pub use progress_laws::{
     batch_begins, batch_ends, batch_goes, batch_refused, batch_stays, batch_written, block_goes,
-    cuts_go_again, cuts_go_on, piece_fails, piece_goes, progress_kept,
+    cuts_go_again, cuts_go_on, piece_fails, piece_goes, progress_kept, serves_asked,
 };
 pub use reply_laws::{
     answers_in_turn, batch_answers, cut_answers, gathered_asks, joins_answer, piece_replies,

@@ -1,5 +1,5 @@
 //! How far a batch got, at one key and at all keys, with losses and late copies.
-ghost use Rattle.ds_turn.specs.Deliveries.{PieceFails, PieceGoes};
+ghost use Rattle.ds_turn.specs.Deliveries.{PieceFails, PieceGoes, ServesAsked};
 ghost use Rattle.ds_turn.specs.Progress.{BatchBegins, BatchEnds, BatchGoes, BatchRefused, BatchStays, BatchWritten, BlockGoes, CutsGoAgain, CutsGoOn, ProgressKept};
 
 /// Does nothing. Its clause: where the batch's items act in their order at a key, any of those that
@@ -36,6 +36,12 @@ pub fn batch_begins()
 /// items acted, as long as none was refused.
 pub fn batch_goes()
     ensures { BatchGoes }
+{}
+
+/// Does nothing. Its clause: without a limit, and where no item resolves intents, a range serves items
+/// as a store is asked, whatever the records say.
+pub fn serves_asked()
+    ensures { ServesAsked }
 {}
 
 /// Does nothing. Its clause: a piece of a transaction that a range served, for the first time or again,
