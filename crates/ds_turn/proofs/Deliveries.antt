@@ -37,7 +37,7 @@ use Rattle.ds_turn.specs.Replies.{Answers, ComesAt}
 use Rattle.ds_turn.proofs.Again.{partway_again}
 use Rattle.ds_turn.proofs.Parts.{part-verdict, rise-held}
 use Rattle.ds_turn.proofs.Failing.{at-true, at-false, first-item, stands_at}
-use Rattle.ds_turn.proofs.Keys.{IsDone, request-done, request-refused, before-fails, gives_at_keys, made-parts}
+use Rattle.ds_turn.proofs.Keys.{failed-failure, IsDone, request-done, request-refused, before-fails, gives_at_keys, made-parts}
 use Rattle.ds_turn.proofs.Progress.{batch_ends, again-still, next-acts, one-more, placed, goes-rest, put-there, progress_kept}
 use Rattle.ds_turn.proofs.Refusing.{acts-turn, acts-course, acts-writes, acts-foreign, partway_refused}
 use Rattle.ds_turn.proofs.Replies.{gathered_asks, answers_in_turn, cut_answers, rest-given}
@@ -265,9 +265,6 @@ refused-now s a items j js vs c d f low h refused = by h.acted h.rest h.partway 
           λ young. ap (λ zs. turn_of a zs d) all ∙ parts.0 young ∙ ap (λ n. TurnFails n f) (sym next.position),
           λ old. ap (λ zs. turn_of a zs (with_versions vs d)) all ∙ parts.1 old ∙ ap (λ n. TurnFails n f) (sym next.position),
         )
-
-failed-failure : (f g : Failure) → Fails f ≡ Fails g → g ≡ f
-failed-failure f g h = cc
 
 fails-from : (s : ℕ) (q : Asking) (vs : List ℕ → List Version) (cells : Cells) (js : List Item) (x : Cells) (failure : Failure) → q.head.at.0 ≤ s → NumbersInOrder q.items → Ascends key_of x → Ascends key_of cells
     → StandsAll s q vs cells js x → ask_all q.head js x ≡ Fails failure → FailsInTurn q vs cells failure

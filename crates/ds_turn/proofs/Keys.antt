@@ -1,5 +1,5 @@
 -- A batch asked of all contents at once, told by its keys.
-use Rattle.std.proofs.Common.{◌≡◌, ℕ, Bool, true, false, cond, List, [], ◌∷◌, ◌++◌, Option, Some, None, ◌⊎◌, inl, inr, refl, sym, ap, ◌∙◌, subst, ◌==◌}
+use Rattle.std.proofs.Common.{◌≡◌, ℕ, Bool, true, false, cond, List, [], ◌∷◌, ◌++◌, Option, Some, None, ◌⊎◌, inl, inr, refl, sym, ap, ◌∙◌, subst}
 use Rattle.ds_base.specs.Order.{key_lt, holds, after}
 use Rattle.ds_base.specs.Ordered.{key_eq, AllOver, Ascends, at_key, between}
 use Rattle.ds_base.specs.declared.value.Value.{Value}
@@ -13,23 +13,18 @@ use Rattle.ds_kind.specs.declared.batch.Item.{Item}
 use Rattle.ds_kind.specs.declared.reply.Reply.{Reply}
 use Rattle.ds_kind.specs.declared.reply.Failure.{Failure}
 use Rattle.ds_kind.specs.declared.request.Request.{Request}
-use Rattle.ds_kind.specs.declared.request.Request.TheVariants.{Get, Scan, ReverseScan, Put as PutAt, ConditionalPut, InitPut, Increment, Delete, DeleteRange, EndTxn, QueryIntent, ResolveIntent, ResolveIntentRange, AdminSplit, AdminTransferLease}
 use Rattle.ds_cell.specs.declared.entry.At.{At}
-use Rattle.ds_cell.specs.declared.entry.Written.{Written}
 use Rattle.ds_cell.specs.declared.verdict.Verdict.{Verdict}
 use Rattle.ds_cell.specs.declared.verdict.Verdict.TheVariants.{Keep, Put, Refuse}
 use Rattle.ds_cell.specs.declared.verdict.Bit.{Bit}
-use Rattle.ds_cell.specs.declared.verdict.Bit.TheVariants.{Nothing}
 use Rattle.ds_cell.specs.declared.verdict.ActFault.{ActFault}
 use Rattle.ds_cell.specs.Ask.{Cell, Cells, key_of, Asked, Failed, Gave, one_more, ask_each, content_of, content_at}
 use Rattle.ds_cell.specs.Change.{wrote}
 use Rattle.ds_cell.specs.Content.{Content, no_content}
-use Rattle.ds_cell.specs.Deed.{content_after, decide, look_of}
-use Rattle.ds_cell.specs.Kinds.{gone, gone_of}
+use Rattle.ds_cell.specs.Deed.{content_after}
 use Rattle.ds_cell.specs.KeyProofs.{quiet}
-use Rattle.ds_cell.specs.LawProofs.{own_span, guarded-keep}
+use Rattle.ds_cell.specs.LawProofs.{own_span}
 use Rattle.ds_cell.specs.Requests.{deed_of, ask_request}
-use Rattle.ds_cell.specs.Seen.{own, held, newest, under, value_seen, unless_written, newest_from, too_old}
 use Rattle.ds_cell.specs.Store.{WriteAt, put_cell, write_all, under_number}
 use Rattle.ds_cell.specs.Replies.{body_of}
 use Rattle.ds_rule.specs.Asking.{Made, Gives, Fails, and_before, and_then, made_by, ask_all, at_of, failure_of}
@@ -175,18 +170,11 @@ span-done r at b still s e cells out q =
         let some : content_at q cells ≡ p.1 = ap content_of e in
         subst (λ c. IsNoRefusal (deed_of r at c) × (content_at q out ≡ content_after at (deed_of r at c) c)) (sym some) (h some)
 
--- what the kinds that go over spans do where nothing stands
-
-nil-if : (t : Bool) (h : List Written) → h ≡ [] → cond t h [] ≡ []
-nil-if true h e = e
-nil-if false h e = refl
-
-own-nothing : (at : At) → own at no_content ≡ []
-own-nothing at = nil-if (0 == at.epoch) (held at.txn.0 no_content) (nil-if (0 == at.txn.0) [] refl)
-
-delete-nothing : (r : Request) (at : At) (is : deed_of r at no_content ≡ decide (under at.seq.0 (own at no_content)) gone (unless_written (own at no_content) (newest_from at.stamp.0 no_content)) (gone_of (value_seen (newest (look_of true at.seq.0) (own at no_content)) None))) → deed_of r at no_content ≡ Keep Nothing
-delete-nothing r at is =
-    is ∙ ap (λ h. decide (under at.seq.0 h) gone (unless_written h (newest_from at.stamp.0 no_content)) (gone_of (value_seen (newest (look_of true at.seq.0) h) None))) (own-nothing at)
+-- what leaves no trace only answers
+quiet-keep : (v : Verdict) → quiet v ≡ true → (b : Bit) × (v ≡ Keep b)
+quiet-keep (Keep b) h = (b, refl)
+quiet-keep (Put w b) h = cc
+quiet-keep (Refuse f) h = cc
 
 -- the places of a request ascend, and show what stands there
 
@@ -204,21 +192,16 @@ at-done r at k cells bs ws asc h =
 
 pub request-done : (r : Request) (at : At) (cells : Cells) (bs : Bits) (ws : Puts) → Ascends key_of cells → ask_request r at cells ≡ Gave bs ws
     → Ascends key_of (write_all at ws cells) × ((q : List ℕ) → IsDone r at cells (write_all at ws cells) q (holds (span_of r).start (span_of r).end q))
-request-done (Get a) at cells bs ws asc h = at-done (Get a) at a.key cells bs ws asc h
-request-done (Scan a) at cells bs ws asc h = over-done (Scan a) at _ (guarded-keep (too_old at no_content) _) a.start a.end cells bs ws asc h
-request-done (ReverseScan a) at cells bs ws asc h = over-done (ReverseScan a) at _ (guarded-keep (too_old at no_content) _) a.start a.end cells bs ws asc h
-request-done (PutAt a) at cells bs ws asc h = at-done (PutAt a) at a.key cells bs ws asc h
-request-done (ConditionalPut a) at cells bs ws asc h = at-done (ConditionalPut a) at a.key cells bs ws asc h
-request-done (InitPut a) at cells bs ws asc h = at-done (InitPut a) at a.key cells bs ws asc h
-request-done (Increment a) at cells bs ws asc h = at-done (Increment a) at a.key cells bs ws asc h
-request-done (Delete a) at cells bs ws asc h = at-done (Delete a) at a.key cells bs ws asc h
-request-done (DeleteRange a) at cells bs ws asc h = over-done (DeleteRange a) at Nothing (delete-nothing (DeleteRange a) at refl) a.start a.end cells bs ws asc h
-request-done (EndTxn a) at cells bs ws asc h = at-done (EndTxn a) at a.key cells bs ws asc h
-request-done (QueryIntent a) at cells bs ws asc h = at-done (QueryIntent a) at a.key cells bs ws asc h
-request-done (ResolveIntent a) at cells bs ws asc h = at-done (ResolveIntent a) at a.key cells bs ws asc h
-request-done (ResolveIntentRange a) at cells bs ws asc h = over-done (ResolveIntentRange a) at Nothing (guarded-keep (too_old at no_content) _) a.start a.end cells bs ws asc h
-request-done (AdminSplit a) at cells bs ws asc h = at-done (AdminSplit a) at a.key cells bs ws asc h
-request-done (AdminTransferLease a) at cells bs ws asc h = at-done (AdminTransferLease a) at a.key cells bs ws asc h
+request-done r at cells bs ws asc h = by (acts_where r)
+  where
+    by : ActsAt r ⊎ ActsOver r → Ascends key_of (write_all at ws cells) × ((q : List ℕ) → IsDone r at cells (write_all at ws cells) q (holds (span_of r).start (span_of r).end q))
+    by (inl p) =
+        let all = at-done r at p.key cells bs ws asc (sym (ask_point r at cells p.key p.reach) ∙ h) in
+        (all.0, λ q. subst (λ z. IsDone r at cells (write_all at ws cells) q (holds (extent_of z).start (extent_of z).end q)) (sym p.reach) (all.1 q))
+    by (inr o) =
+        let still = quiet-keep (deed_of r at no_content) (o.still at) in
+        let all = over-done r at still.0 still.1 o.start o.end cells bs ws asc (sym (ask_over r at cells o.start o.end o.reach) ∙ h) in
+        (all.0, λ q. subst (λ z. IsDone r at cells (write_all at ws cells) q (holds (extent_of z).start (extent_of z).end q)) (sym o.reach) (all.1 q))
 
 -- a batch
 
@@ -313,21 +296,15 @@ at-given : (r : Request) (at : At) (k : List ℕ) (cells : Cells) → ((q : List
 at-given r at k cells fine = each-given (deed_of r at) ((k, content_at k cells) ∷ []) (fine k (own_span k), tt)
 
 pub request-given : (r : Request) (at : At) (cells : Cells) → Ascends key_of cells → FineAt r at cells → IsGiven (ask_request r at cells)
-request-given (Get a) at cells asc fine = at-given (Get a) at a.key cells fine
-request-given (Scan a) at cells asc fine = over-given (Scan a) at a.start a.end cells asc fine
-request-given (ReverseScan a) at cells asc fine = over-given (ReverseScan a) at a.start a.end cells asc fine
-request-given (PutAt a) at cells asc fine = at-given (PutAt a) at a.key cells fine
-request-given (ConditionalPut a) at cells asc fine = at-given (ConditionalPut a) at a.key cells fine
-request-given (InitPut a) at cells asc fine = at-given (InitPut a) at a.key cells fine
-request-given (Increment a) at cells asc fine = at-given (Increment a) at a.key cells fine
-request-given (Delete a) at cells asc fine = at-given (Delete a) at a.key cells fine
-request-given (DeleteRange a) at cells asc fine = over-given (DeleteRange a) at a.start a.end cells asc fine
-request-given (EndTxn a) at cells asc fine = at-given (EndTxn a) at a.key cells fine
-request-given (QueryIntent a) at cells asc fine = at-given (QueryIntent a) at a.key cells fine
-request-given (ResolveIntent a) at cells asc fine = at-given (ResolveIntent a) at a.key cells fine
-request-given (ResolveIntentRange a) at cells asc fine = over-given (ResolveIntentRange a) at a.start a.end cells asc fine
-request-given (AdminSplit a) at cells asc fine = at-given (AdminSplit a) at a.key cells fine
-request-given (AdminTransferLease a) at cells asc fine = at-given (AdminTransferLease a) at a.key cells fine
+request-given r at cells asc fine = by (acts_where r)
+  where
+    by : ActsAt r ⊎ ActsOver r → IsGiven (ask_request r at cells)
+    by (inl p) =
+        subst IsGiven (sym (ask_point r at cells p.key p.reach))
+        (at-given r at p.key cells (λ q here. fine q (subst (λ z. holds (extent_of z).start (extent_of z).end q ≡ true) (sym p.reach) here)))
+    by (inr o) =
+        subst IsGiven (sym (ask_over r at cells o.start o.end o.reach))
+        (over-given r at o.start o.end cells asc (λ q here. fine q (subst (λ z. holds (extent_of z).start (extent_of z).end q ≡ true) (sym o.reach) here)))
 
 -- the first item at a key was not refused, and the others go on from what it left
 abbrev FirstAt : Head → Item → List Item → Content → Bool → Type 0
@@ -428,21 +405,15 @@ at-failed r at k cells q f here refused =
     ap (λ v. one_more k v (Gave [] [])) (ap (λ z. deed_of r at (content_at z cells)) (sym same) ∙ refused) ∙ ap (λ z. Failed z f) (sym same)
 
 request-failed : (r : Request) (at : At) (cells : Cells) (k : List ℕ) (f : ActFault) → Ascends key_of cells → holds (span_of r).start (span_of r).end k ≡ true → deed_of r at (content_at k cells) ≡ Refuse f → Below r at cells k → ask_request r at cells ≡ Failed k f
-request-failed (Get a) at cells k f asc here refused below = at-failed (Get a) at a.key cells k f here refused
-request-failed (Scan a) at cells k f asc here refused below = over-failed (Scan a) at _ (guarded-keep (too_old at no_content) _) a.start a.end cells k f asc here refused below
-request-failed (ReverseScan a) at cells k f asc here refused below = over-failed (ReverseScan a) at _ (guarded-keep (too_old at no_content) _) a.start a.end cells k f asc here refused below
-request-failed (PutAt a) at cells k f asc here refused below = at-failed (PutAt a) at a.key cells k f here refused
-request-failed (ConditionalPut a) at cells k f asc here refused below = at-failed (ConditionalPut a) at a.key cells k f here refused
-request-failed (InitPut a) at cells k f asc here refused below = at-failed (InitPut a) at a.key cells k f here refused
-request-failed (Increment a) at cells k f asc here refused below = at-failed (Increment a) at a.key cells k f here refused
-request-failed (Delete a) at cells k f asc here refused below = at-failed (Delete a) at a.key cells k f here refused
-request-failed (DeleteRange a) at cells k f asc here refused below = over-failed (DeleteRange a) at Nothing (delete-nothing (DeleteRange a) at refl) a.start a.end cells k f asc here refused below
-request-failed (EndTxn a) at cells k f asc here refused below = at-failed (EndTxn a) at a.key cells k f here refused
-request-failed (QueryIntent a) at cells k f asc here refused below = at-failed (QueryIntent a) at a.key cells k f here refused
-request-failed (ResolveIntent a) at cells k f asc here refused below = at-failed (ResolveIntent a) at a.key cells k f here refused
-request-failed (ResolveIntentRange a) at cells k f asc here refused below = over-failed (ResolveIntentRange a) at _ (guarded-keep (too_old at no_content) _) a.start a.end cells k f asc here refused below
-request-failed (AdminSplit a) at cells k f asc here refused below = at-failed (AdminSplit a) at a.key cells k f here refused
-request-failed (AdminTransferLease a) at cells k f asc here refused below = at-failed (AdminTransferLease a) at a.key cells k f here refused
+request-failed r at cells k f asc here refused below = by (acts_where r)
+  where
+    by : ActsAt r ⊎ ActsOver r → ask_request r at cells ≡ Failed k f
+    by (inl p) = ask_point r at cells p.key p.reach ∙ at-failed r at p.key cells k f (subst (λ z. holds (extent_of z).start (extent_of z).end k ≡ true) p.reach here) refused
+    by (inr o) =
+        let still = quiet-keep (deed_of r at no_content) (o.still at) in
+        ask_over r at cells o.start o.end o.reach
+        ∙ over-failed r at still.0 still.1 o.start o.end cells k f asc (subst (λ z. holds (extent_of z).start (extent_of z).end k ≡ true) o.reach here) refused
+        (λ q low there. below q low (subst (λ z. holds (extent_of z).start (extent_of z).end q ≡ true) (sym o.reach) there))
 
 -- a batch after those before
 after-gives : (h : Head) (xs ys : List Item) (cells out : Cells) (ws : List WriteAt) (rs : List Reply) (f : Failure) → ask_all h xs cells ≡ Gives out ws rs → ask_all h ys out ≡ Fails f → ask_all h (xs ++ ys) cells ≡ Fails f
@@ -505,21 +476,11 @@ at-refused r at k cells q f h = elim (one-refused k q (deed_of r at (content_at 
     gave-failed q f h = cc
 
 pub request-refused : (r : Request) (at : At) (cells : Cells) (k : List ℕ) (f : ActFault) → Ascends key_of cells → ask_request r at cells ≡ Failed k f → IsRefused r at cells k f
-request-refused (Get a) at cells k f asc h = at-refused (Get a) at a.key cells k f h
-request-refused (Scan a) at cells k f asc h = over-refused (Scan a) at a.start a.end cells k f asc h
-request-refused (ReverseScan a) at cells k f asc h = over-refused (ReverseScan a) at a.start a.end cells k f asc h
-request-refused (PutAt a) at cells k f asc h = at-refused (PutAt a) at a.key cells k f h
-request-refused (ConditionalPut a) at cells k f asc h = at-refused (ConditionalPut a) at a.key cells k f h
-request-refused (InitPut a) at cells k f asc h = at-refused (InitPut a) at a.key cells k f h
-request-refused (Increment a) at cells k f asc h = at-refused (Increment a) at a.key cells k f h
-request-refused (Delete a) at cells k f asc h = at-refused (Delete a) at a.key cells k f h
-request-refused (DeleteRange a) at cells k f asc h = over-refused (DeleteRange a) at a.start a.end cells k f asc h
-request-refused (EndTxn a) at cells k f asc h = at-refused (EndTxn a) at a.key cells k f h
-request-refused (QueryIntent a) at cells k f asc h = at-refused (QueryIntent a) at a.key cells k f h
-request-refused (ResolveIntent a) at cells k f asc h = at-refused (ResolveIntent a) at a.key cells k f h
-request-refused (ResolveIntentRange a) at cells k f asc h = over-refused (ResolveIntentRange a) at a.start a.end cells k f asc h
-request-refused (AdminSplit a) at cells k f asc h = at-refused (AdminSplit a) at a.key cells k f h
-request-refused (AdminTransferLease a) at cells k f asc h = at-refused (AdminTransferLease a) at a.key cells k f h
+request-refused r at cells k f asc h = by (acts_where r)
+  where
+    by : ActsAt r ⊎ ActsOver r → IsRefused r at cells k f
+    by (inl p) = subst (λ z. RefusedOn r at cells (extent_of z).start (extent_of z).end k f) (sym p.reach) (at-refused r at p.key cells k f (sym (ask_point r at cells p.key p.reach) ∙ h))
+    by (inr o) = subst (λ z. RefusedOn r at cells (extent_of z).start (extent_of z).end k f) (sym o.reach) (over-refused r at o.start o.end cells k f asc (sym (ask_over r at cells o.start o.end o.reach) ∙ h))
 
 -- and at no lower key
 
@@ -593,7 +554,7 @@ left-more h i xs cells next k =
       | false ↦ λ one. ap (after_items (at_of h 0) (items_at k xs)) (sym one)
     ]
 
-failed-failure : (f g : Failure) → Fails f ≡ Fails g → g ≡ f
+pub failed-failure : (f g : Failure) → Fails f ≡ Fails g → g ≡ f
 failed-failure f g h = cc
 
 pub fails_at_key : FailsAtKey
