@@ -21,4 +21,5 @@ pub mod Serve
 pub mod Shifts
 pub mod StandsFor
 pub mod Steady
+pub mod Turn
 pub mod World

@@ -1,0 +1,5 @@
+use Rattle.ds_turn.proofs.Progress.{cuts_go_again}
+use Rattle.ds_turn.proofs.progress_laws.cuts_go_again.Goals as goal
+
+pub returns : goal.returns
+returns c = cuts_go_again

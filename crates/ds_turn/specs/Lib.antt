@@ -1,0 +1,12 @@
+pub mod Alone
+pub mod Course
+pub mod Cuts
+pub mod Deliveries
+pub mod Failing
+pub mod KeyIs
+pub mod Keys
+pub mod OnePiece
+pub mod Partway
+pub mod Progress
+pub mod Replies
+pub mod Settling
