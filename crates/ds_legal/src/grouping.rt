@@ -1,9 +1,8 @@
 //! The parts that a batch is sent in.
-ghost use Rattle.std.specs.Prelude.{◌≡◌, ◌≤◌, ◌++◌, ◌∷◌, ◌&&◌, not, true, [], List, map, length, IfOk, OnOk};
-ghost use Rattle.ds_kind.specs.declared.batch.Item.{Item};
+ghost use Rattle.std.specs.Prelude.{◌≡◌, ◌++◌, ◌∷◌, ◌&&◌, not, true, [], length, IfOk, OnOk};
 ghost use Rattle.ds_kind.specs.Asks.{is_end, has_proper_span, knows_limit, acts};
-ghost use Rattle.ds_kind.specs.Groups.{groups_from};
-ghost use Rattle.ds_kind.specs.Parts.{may_join, item_may_join, items_from, part_of, parts_of, requests_of, AreParts, EachRequest};
+ghost use Rattle.ds_kind.specs.Parts.{may_join, part_of, parts_of, requests_of, AreParts, EachRequest};
+ghost use Rattle.ds_legal.specs.Placing.{IsPlaced};
 ghost use Rattle.std.specs.List.{list_any};
 ghost use Rattle.std.specs.Option.{is_some};
 
@@ -96,7 +95,7 @@ fn place(
     item: Item,
     split_end: bool,
 ) -> Result<(), AllocError>
-    ensures { OnOk result ((rest : List Item) → parts.new ++ map part_of (groups_from (item_may_join split_end) last.new rest) ≡ parts.old ++ map part_of (groups_from (item_may_join split_end) last.old (item ∷ rest))) }
+    ensures { OnOk result (IsPlaced split_end item parts.old last.old parts.new last.new) }
 {
     if !last.takes(&item.request, split_end) {
         let full = mem::replace(last, Open::new(alloc));

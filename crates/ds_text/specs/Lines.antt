@@ -1,7 +1,8 @@
 -- The JSON object of each line: a step, an answer, a close or a restart.
-use Rattle.std.specs.Prelude.{ℕ, List, [], ◌∷◌, codes, Bool, true, false, nat_lt, length, Option, Some, None, option_map, if◌then◌else◌}
+use Rattle.std.specs.Prelude.{ℕ, List, [], ◌∷◌, ◌++◌, codes, Bool, true, false, nat_lt, length, Option, Some, None, option_map, if◌then◌else◌}
 use Rattle.std.specs.List.{list_any}
 use Rattle.serde_json.specs.Data.{Data, Members, boolean, string, object, member}
+use Rattle.ds_base.specs.Order.{Extent}
 use Rattle.ds_base.specs.declared.value.Dir.{Dir}
 use Rattle.ds_kind.specs.declared.batch.Item.{Item}
 use Rattle.ds_kind.specs.declared.batch.Piece.{Piece}
@@ -23,8 +24,11 @@ use Rattle.ds_text.specs.Replies.{status_data, reply_data, condition_data, too_o
 use Rattle.ds_text.specs.Ranges.{desc_data, looked_data, refusal_data}
 
 -- position, start, end and number of a request, or of a part of one
+abbrev pub ends_data : Extent → List Data
+ends_data s = key_data s.start ∷ key_data s.end ∷ []
+
 abbrev pub item_data : Item → Data
-item_data i = tuple (nat i.pos ∷ key_data (span_of i.request).start ∷ key_data (span_of i.request).end ∷ nat i.seq.0 ∷ [])
+item_data i = tuple (nat i.pos ∷ ends_data (span_of i.request) ++ nat i.seq.0 ∷ [])
 
 -- whether the request is a commit that waits for writes in flight
 abbrev pub waits : Request → Bool
@@ -43,13 +47,16 @@ answer_data (answers.Failed failure) = only (codes "failed") (failure_data failu
 answer_data (answers.Refused refusal) = refusal_data refusal
 answer_data answers.Lost = string (codes "lost")
 
-abbrev pub look_data : ℕ → ℕ → List ℕ → Dir → Looked → Data
-look_data line number key dir looked =
-    object (member (codes "dir") (string (dir_text dir))
+abbrev pub look_members : ℕ → ℕ → List ℕ → Dir → Looked → Members
+look_members line number key dir looked =
+    member (codes "dir") (string (dir_text dir))
     (member (codes "key") (key_data key)
     (member (codes "line") (nat line)
     (member (codes "look") (looked_data looked)
-    (lone (codes "step") (nat number))))))
+    (lone (codes "step") (nat number)))))
+
+abbrev pub look_data : ℕ → ℕ → List ℕ → Dir → Looked → Data
+look_data line number key dir looked = object (look_members line number key dir looked)
 
 abbrev pub send_members : ℕ → ℕ → ℕ → Piece → Answer → Members
 send_members line number node piece answer =

@@ -1,12 +1,16 @@
 //! The object of each line: a step, an answer, a close or a restart.
-ghost use Rattle.std.specs.Prelude.{◌≡◌, true, IfOk};
+ghost use Rattle.std.specs.Prelude.{◌≡◌, ◌++◌, true, map, codes, IfOk, OnOk};
 ghost use Rattle.serde_json.specs.View.{view, members_view};
-ghost use Rattle.ds_text.specs.Lines.{item_data, waits, is_staged, answer_data, step_data, send_members, code_of, place_of, illegal_data, has_text, exhausted_data, outcome_data, answer_line, close_line, restart_line, fault_line};
+ghost use Rattle.ds_kind.specs.Request.{span_of};
+ghost use Rattle.ds_text.specs.Simple.{with_member};
+ghost use Rattle.ds_text.specs.Lines.{item_data, ends_data, waits, is_staged, if_true, answer_data, step_data, look_members, send_members, code_of, place_of, illegal_data, has_text, exhausted_data, outcome_data, answer_line, close_line, restart_line, fault_line};
 
 use crate::replies::{at_json, condition_json, too_old_json};
 use crate::to_json::{
     ToJson, after_text, bare, dir_name, key_text, lone, only, only_in, only_of, put_some,
 };
+use ds_base::{Dir, Key};
+use ds_desc::Looked;
 use ds_kind::{Bounds, Illegal, Item, Piece, Request, TxnStatus};
 use ds_rule::{Answer, JournalStep, Outcome};
 use serde_json::{Map, Value as Json, json};
@@ -36,9 +40,8 @@ pub(crate) fn step_json(
 {
     match step {
         JournalStep::Look { key, dir, looked } => {
-            let key = key.to_json(alloc)?;
-            let look = looked.to_json(alloc)?;
-            json!(in alloc; {"dir": dir_name(*dir), "key": key, "line": line, "look": look, "step": number})
+            let members = look_members(alloc, line, number, key, *dir, looked)?;
+            Ok(Json::Object(members))
         }
         JournalStep::Send {
             node,
@@ -46,15 +49,43 @@ pub(crate) fn step_json(
             answer,
         } => {
             let mut members = send_members(alloc, line, number, *node, piece, answer)?;
-            let staged = if is_staged(piece) {
-                Some(Json::Bool(true))
-            } else {
-                None
-            };
-            put_some(&mut members, alloc, "staged", staged)?;
+            put_staged(&mut members, alloc, piece)?;
             Ok(Json::Object(members))
         }
     }
+}
+
+/// What a lookup's object has.
+fn look_members(
+    alloc: Global,
+    line: u32,
+    number: u64,
+    key: &Key,
+    dir: Dir,
+    looked: &Looked,
+) -> Result<Map<String, Json>, AllocError>
+    ensures { IfOk result (λ m. members_view m.entries ≡ look_members line number key.now dir looked.now) }
+{
+    let mut members = lone(alloc, "dir", Json::try_from_str(alloc, dir_name(dir))?)?;
+    serde_json::put(&mut members, alloc, "key", key.to_json(alloc)?)?;
+    serde_json::put(&mut members, alloc, "line", Json::from(line))?;
+    serde_json::put(&mut members, alloc, "look", looked.to_json(alloc)?)?;
+    serde_json::put(&mut members, alloc, "step", Json::from(number))?;
+    Ok(members)
+}
+
+/// Says of a piece that holds a commit in flight that it does.
+fn put_staged(
+    members: &mut Map<String, Json>,
+    alloc: Global,
+    piece: &Piece,
+) -> Result<(), AllocError>
+    ensures { OnOk result (members_view members.new.entries ≡ with_member (codes "staged") (if_true (is_staged piece.now.items)) (members_view members.old.entries)) }
+{
+    if is_staged(piece) {
+        return serde_json::put(members, alloc, "staged", Json::Bool(true));
+    }
+    Ok(())
 }
 
 /// What a send's object has in any case.
@@ -103,11 +134,27 @@ impl ToJson for Item {
     ghost form = { λ i. item_data i };
 
     fn to_json(&self, alloc: Global) -> Result<Json, AllocError> {
-        let (start, end) = match self.request.bounds() {
-            Bounds::Point(key) => (key_text(alloc, key)?, after_text(alloc, key)?),
-            Bounds::Between(start, end) => (key_text(alloc, start)?, key_text(alloc, end)?),
-        };
-        json!(in alloc; [self.pos, start, end, self.seq.0])
+        let mut items = Vec::new(alloc);
+        items.push(Json::from(self.pos))?;
+        add_ends(alloc, &mut items, &self.request)?;
+        items.push(Json::from(self.seq.0))?;
+        Ok(Json::Array(items))
+    }
+}
+
+/// Adds where the request's span starts and ends.
+fn add_ends(alloc: Global, items: &mut Vec<Json>, request: &Request) -> Result<(), AllocError>
+    ensures { OnOk result (map view (items.new).items ≡ map view (items.old).items ++ ends_data (span_of request.now)) }
+{
+    match request.bounds() {
+        Bounds::Point(key) => {
+            items.push(Json::String(key_text(alloc, key)?))?;
+            Ok(items.push(Json::String(after_text(alloc, key)?))?)
+        }
+        Bounds::Between(start, end) => {
+            items.push(Json::String(key_text(alloc, start)?))?;
+            Ok(items.push(Json::String(key_text(alloc, end)?))?)
+        }
     }
 }
 
@@ -164,8 +211,7 @@ impl ToJson for Illegal {
 
     fn to_json(&self, alloc: Global) -> Result<Json, AllocError> {
         let mut members = lone(alloc, "code", Json::from(code_of(self)))?;
-        let place = place_of(self).map(Json::from);
-        put_some(&mut members, alloc, "i", place)?;
+        put_some(&mut members, alloc, "i", &place_of(self))?;
         Ok(Json::Object(members))
     }
 }

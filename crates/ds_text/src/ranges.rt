@@ -12,16 +12,13 @@ use std::alloc::{AllocError, Global};
 fn desc_items(alloc: Global, desc: &RangeDesc) -> Result<Vec<Json>, AllocError>
     ensures { IfOk result (λ v. map view v.items ≡ desc_items desc.now) }
 {
-    let start = desc.span.start.to_json(alloc)?;
-    let end = desc.span.end.to_json(alloc)?;
-    let nodes = list_json(alloc, desc.nodes.as_slice())?;
-    Ok(vec![in alloc;
-        Json::from(desc.id),
-        start,
-        end,
-        Json::from(desc.generation),
-        nodes,
-    ]?)
+    let mut items = Vec::new(alloc);
+    items.push(Json::from(desc.id))?;
+    items.push(desc.span.start.to_json(alloc)?)?;
+    items.push(desc.span.end.to_json(alloc)?)?;
+    items.push(Json::from(desc.generation))?;
+    items.push(list_json(alloc, desc.nodes.as_slice())?)?;
+    Ok(items)
 }
 
 /// Adds what the array of a lease has.

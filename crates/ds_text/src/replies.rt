@@ -32,11 +32,7 @@ impl ToJson for Reply {
 
     fn to_json(&self, alloc: Global) -> Result<Json, AllocError> {
         let mut members = body_members(alloc, &self.body)?;
-        let resume = match &self.resume {
-            Some(span) => Some(span.to_json(alloc)?),
-            None => None,
-        };
-        put_some(&mut members, alloc, "resume", resume)?;
+        put_some(&mut members, alloc, "resume", &self.resume)?;
         Ok(Json::Object(members))
     }
 }

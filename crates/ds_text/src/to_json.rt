@@ -178,16 +178,16 @@ pub(crate) fn only_in<T: ToJson>(
 }
 
 /// Puts a member in its place, if there is one.
-pub(crate) fn put_some(
+pub(crate) fn put_some<T: ToJson>(
     members: &mut Map<String, Json>,
     alloc: Global,
     name: &str,
-    value: Option<Json>,
+    value: &Option<T>,
 ) -> Result<(), AllocError>
-    ensures { OnOk result (members_view members.new.entries ≡ with_member name.now (option_map view value) (members_view members.old.entries)) }
+    ensures { OnOk result (members_view members.new.entries ≡ with_member name.now (option_map T.form value.now) (members_view members.old.entries)) }
 {
     match value {
-        Some(value) => serde_json::put(members, alloc, name, value),
+        Some(value) => serde_json::put(members, alloc, name, value.to_json(alloc)?),
         None => Ok(()),
     }
 }
