@@ -17,7 +17,8 @@ use Rattle.ds_cache.specs.Insert.{clear_of}
 use Rattle.ds_cache.specs.Nearest.{NoneBefore, IsLastBefore}
 use Rattle.ds_cache.specs.Placing.{OthersApart, AreSpans, IsBeside, IsAlone, spared, IsPlaced, Reindexed}
 use Rattle.ds_cache.proofs.Serials.{is_false, at_head, at_tail, distinct_tail, distinct_more, at_without, distinct_without}
-use Rattle.ds_cache.proofs.Sound.{left_without, same_key, same_at}
+use Rattle.ds_cache.proofs.Sound.{left_without, same_at}
+use Rattle.ds_base.proofs.OrderedFacts.{eq_same}
 
 -- ---- another entry that overlaps
 
@@ -222,7 +223,7 @@ index_put s i es fs m r ix now here back kept = record {
       (elim (is_at (key_cmp i.desc.span.start) k) as (λ u. is_at (key_cmp i.desc.span.start) k ≡ u → (j : Info) × (at_serial t fs ≡ Some j) × (j.desc.span.start ≡ k)) [
         | true ↦ λ u.
             let st : s ≡ t = some_same s t (sym (now k ∙ ap (λ b. cond b (Some s) (lookup (is_at (key_cmp k)) m)) u) ∙ p) in
-            (i, ap (λ x. at_serial x fs) (sym st) ∙ here, same_key _ _ u)
+            (i, ap (λ x. at_serial x fs) (sym st) ∙ here, eq_same _ _ u)
         | false ↦ λ u.
             let was : lookup (is_at (key_cmp k)) m ≡ Some t = sym (now k ∙ ap (λ b. cond b (Some s) (lookup (is_at (key_cmp k)) m)) u) ∙ p in
             let on = ix.only k t was in
@@ -245,7 +246,7 @@ pub index_new : (s : ℕ) (i : Info) (es fs : List Entry) (m r : List (List ℕ 
 index_new s i es fs m r is ix now fresh free = subst (λ l. IsIndex l r) (sym is) (index_put s i es ((s, i) ∷ es) m r ix now (at_head (s, i) es)
     (λ t j p other.
     let was : at_serial t es ≡ Some j = sym (at_second s t i es other) ∙ p in
-    (was, is_false _ (λ u. some_none t (sym (ix.each t j was) ∙ ap (λ k. lookup (is_at (key_cmp k)) m) (sym (same_key _ _ u)) ∙ free))))
+    (was, is_false _ (λ u. some_none t (sym (ix.each t j was) ∙ ap (λ k. lookup (is_at (key_cmp k)) m) (sym (eq_same _ _ u)) ∙ free))))
     (λ t j p apart. at_second s t i es (differs s t (λ e. some_none j (sym p ∙ ap (λ x. at_serial x es) (sym e) ∙ fresh))) ∙ p))
 
 pub index_over : (s o : ℕ) (i b : Info) (es fs : List Entry) (m r : List (List ℕ × ℕ)) → fs ≡ without o ((s, i) ∷ es) → IsDistinct nat_eq (keys_of es) → IsIndex es m → Reindexed i.desc.span.start s m r → at_serial s es ≡ None → at_serial o es ≡ Some b → b.desc.span.start ≡ i.desc.span.start → IsIndex fs r
@@ -259,7 +260,7 @@ index_over s o i b es fs m r is d ix now fresh there start =
     let was : at_serial t es ≡ Some j = sym (at_second s t i es other) ∙ on.1 in (
       was,
       is_false _ (λ u.
-          let ot : o ≡ t = some_same o t (sym (ix.each o b there) ∙ ap (λ k. lookup (is_at (key_cmp k)) m) (start ∙ same_key _ _ u) ∙ ix.each t j was) in
+          let ot : o ≡ t = some_same o t (sym (ix.each o b there) ∙ ap (λ k. lookup (is_at (key_cmp k)) m) (start ∙ eq_same _ _ u) ∙ ix.each t j was) in
           true≢false (sym (nat_eq_equiv.refl o) ∙ ap (nat_eq o) ot ∙ on.0)),
     ))
     (λ t j p apart.

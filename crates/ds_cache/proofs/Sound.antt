@@ -1,19 +1,16 @@
 -- What every cache keeps, after each change.
 use Rattle.std.proofs.Common.{◌≡◌, ℕ, ◌≤◌, true, false, cond, not, List, [], ◌∷◌, length, Some, None, IsSome, option_map, refl, sym, ap, ◌∙◌, subst, arith, nat_eq, true≢false}
+use Rattle.std.specs.Ordering.{is_eq}
 use Rattle.std.specs.Cmp.{nat_eq_equiv}
 use Rattle.std.specs.List.{IsDistinct}
 use Rattle.std.specs.Map.{lookup, keys_of}
 use Rattle.std.specs.BTreeMap.{is_at}
 use Rattle.std.proofs.lemmas.Map.Views.{exact_unsigned_eq}
-use Rattle.std.proofs.lemmas.Map.Lookups.{exact_bytes}
-use Rattle.std.specs.Ordering.{is_eq}
-use Rattle.std.specs.declared.cmp.Ordering.{Ordering}
-use Rattle.std.specs.declared.cmp.Ordering.TheVariants.{Less, Equal, Greater}
 use Rattle.std.proofs.lemmas.Cmp.{tied_itself, nat_list_cmp_total}
 use Rattle.lru.specs.LruCache.{promoted}
 use Rattle.ds_base.specs.Order.{key_cmp, key_lt, key_le, Extent}
 use Rattle.ds_base.proofs.KeyOrder.{key_le_lt-trans, key_le-not_lt}
-use Rattle.ds_base.proofs.OrderedFacts.{lt_le_trans}
+use Rattle.ds_base.proofs.OrderedFacts.{eq_same, lt_le_trans}
 use Rattle.ds_base.specs.declared.value.Dir.{Dir}
 use Rattle.ds_base.specs.declared.value.Dir.TheVariants.{Forward, Reverse}
 use Rattle.ds_base.proofs.SmallFacts.{and_both, and_first, and_second, some_none, some_same}
@@ -66,14 +63,6 @@ without_none s (e ∷ es) h =
       | false ↦ λ t. rw t (ap (λ l. e ∷ l) (without_none s es (rw t at h)))
     ]) refl
 
-is_equal : (o : Ordering) → is_eq o ≡ true → o ≡ Equal
-is_equal Less e = cc
-is_equal Equal e = refl
-is_equal Greater e = cc
-
-pub same_key : (a b : List ℕ) → is_at (key_cmp a) b ≡ true → a ≡ b
-same_key a b h = exact_bytes a b (is_equal _ h)
-
 pub same_at : (k : List ℕ) → is_at (key_cmp k) k ≡ true
 same_at k = ap is_eq (tied_itself nat_list_cmp_total k)
 
@@ -99,7 +88,7 @@ index_without s i es m r d h there now = record {
       let was = h.each t j on.1 in
       (elim (is_at (key_cmp i.desc.span.start) j.desc.span.start) as (λ u. is_at (key_cmp i.desc.span.start) j.desc.span.start ≡ u → lookup (is_at (key_cmp j.desc.span.start)) r ≡ Some t) [
         | true ↦ λ u.
-            let ks : i.desc.span.start ≡ j.desc.span.start = same_key _ _ u in
+            let ks : i.desc.span.start ≡ j.desc.span.start = eq_same _ _ u in
             let st : s ≡ t = some_same s t (sym (h.each s i there) ∙ ap (λ k. lookup (is_at (key_cmp k)) m) ks ∙ was) in
             absurd (true≢false (sym (nat_eq_equiv.refl s) ∙ ap (nat_eq s) st ∙ on.0))
         | false ↦ λ u. now j.desc.span.start ∙ ap (λ b. cond b None (lookup (is_at (key_cmp j.desc.span.start)) m)) u ∙ was

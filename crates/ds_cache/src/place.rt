@@ -18,6 +18,7 @@ use ds_desc::Info;
 use lru::LruCache;
 use std::alloc::{AllocError, Global};
 use std::collections::BTreeMap;
+use std::collections::btree_map::Entry;
 
 /// Another entry that overlaps the one of this serial.
 fn beside(recency: &LruCache<u64, Info>, index: &BTreeMap<Key, u64>, serial: u64) -> Option<u64>
@@ -98,30 +99,50 @@ pub(crate) fn trim(
     take_out(recency, index, uses, last);
 }
 
-/// Puts the start into the index, and gives the serial that stood under it.
-fn put_start(
-    index: &mut BTreeMap<Key, u64>,
-    start: Key,
-    serial: u64,
-) -> Result<Option<u64>, AllocError>
-    ensures old { IfOk result (λ old. old ≡ lookup (is_at (key_cmp start)) index.old.entries) }
-    ensures ok { OnOk result (Reindexed start serial index.old.entries index.new.entries) }
-    ensures err { OnErr result (index.new.entries ≡ index.old.entries) }
-{
-    let old = index.insert(start, serial)?;
-    Ok(old)
-}
-
-/// Puts the entry in front.
-fn put_entry(recency: &mut LruCache<u64, Info>, serial: u64, info: Info) -> Result<(), AllocError>
+/// Puts the entry in front, and gives its serial.
+fn put_entry(recency: &mut LruCache<u64, Info>, serial: u64, info: Info) -> Result<u64, AllocError>
     requires fresh { at_serial serial recency.old.entries ≡ None }
     requires room { length recency.old.entries < recency.old.cap }
     ensures ok { OnOk result (recency.new.entries ≡ (serial, info) ∷ recency.old.entries) }
+    ensures serial { IfOk result (λ s. s ≡ serial) }
     ensures capacity { recency.new.cap ≡ recency.old.cap }
     ensures err { OnErr result (recency.new.entries ≡ recency.old.entries) }
 {
     recency.put(serial, info)?;
-    Ok(())
+    Ok(serial)
+}
+
+/// Puts the entry in front and its start into the index, and gives the serial that stood under the
+/// start. The index takes its memory first, then the list takes its own, and only then do the two
+/// change: want of memory finds both as they were.
+fn put_both(
+    recency: &mut LruCache<u64, Info>,
+    index: &mut BTreeMap<Key, u64>,
+    start: Key,
+    serial: u64,
+    info: Info,
+) -> Result<Option<u64>, AllocError>
+    requires fresh { at_serial serial recency.old.entries ≡ None }
+    requires room { length recency.old.entries < recency.old.cap }
+    ensures old { IfOk result (λ old. old ≡ lookup (is_at (key_cmp start)) index.old.entries) }
+    ensures index { OnOk result (Reindexed start serial index.old.entries index.new.entries) }
+    ensures entries { OnOk result (recency.new.entries ≡ (serial, info) ∷ recency.old.entries) }
+    ensures capacity { recency.new.cap ≡ recency.old.cap }
+    ensures index_kept { OnErr result (index.new.entries ≡ index.old.entries) }
+    ensures recency_kept { OnErr result (recency.new.entries ≡ recency.old.entries) }
+{
+    match index.entry(start)? {
+        Entry::Vacant(free) => {
+            let put = put_entry(recency, serial, info);
+            Entry::Vacant(free).or_try_insert_with(move || put)?;
+            return Ok(None);
+        }
+        Entry::Occupied(mut taken) => {
+            put_entry(recency, serial, info)?;
+            let old = taken.insert(serial);
+            return Ok(Some(old));
+        }
+    }
 }
 
 /// Takes the entry of this serial out of the recency list alone.
@@ -133,7 +154,7 @@ fn take_entry(recency: &mut LruCache<u64, Info>, serial: u64)
 }
 
 /// Puts the entry in front, its start into the index, and the number of its first use. Want of memory
-/// leaves the entries and the index as they were; a number may be left for the serial, which isn't
+/// comes before the entries and the index change; a number may be left for the serial, which isn't
 /// given yet, and the next entry takes it over.
 pub(crate) fn place(
     alloc: Global,
@@ -159,17 +180,12 @@ pub(crate) fn place(
     let _above = end_of(&info);
     let start = start_of(&info).copy(alloc)?;
     uses.begin(serial)?;
-    put_entry(recency, serial, info)?;
-    match put_start(index, start, serial) {
-        Ok(Some(old)) => {
+    match put_both(recency, index, start, serial, info)? {
+        Some(old) => {
             take_entry(recency, old);
             uses.end(old);
             return Ok(());
         }
-        Ok(None) => return Ok(()),
-        Err(err) => {
-            take_entry(recency, serial);
-            return Err(err);
-        }
+        None => return Ok(()),
     }
 }
