@@ -1,0 +1,4 @@
+//! Sends one part over ranges that may move.
+#![tactic(auto)]
+
+mod work;
