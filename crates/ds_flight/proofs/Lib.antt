@@ -1,2 +1,4 @@
 pub mod Examples
 pub mod Joins
+pub mod Stepping
+pub mod Working
