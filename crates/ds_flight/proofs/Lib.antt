@@ -1,3 +1,5 @@
+pub mod Caching
+pub mod Cutting
 pub mod Examples
 pub mod Joins
 pub mod Stepping
