@@ -1,9 +1,7 @@
 -- The cache has descriptors that are known alone, whatever is done to it.
-use Rattle.std.proofs.Common.{◌≡◌, ℕ, zero, suc, ◌+◌, ◌-◌, ◌^◌, Bool, true, false, cond, not, List, [], ◌∷◌, ◌++◌, map, find, filter, take, drop, nat_eq, Option, Some, None, refl, sym, ap, ◌∙◌, subst, inl, inr}
-use Rattle.std.specs.Map.{remove_entry}
+use Rattle.std.proofs.Common.{◌≡◌, ℕ, zero, suc, ◌+◌, ◌-◌, ◌^◌, Bool, true, false, cond, List, [], ◌∷◌, ◌++◌, map, find, filter, take, drop, nat_eq, Option, Some, None, refl, sym, subst, inl, inr}
 use Rattle.ds_base.proofs.SmallFacts.{none_some, some_same}
 use Rattle.ds_base.specs.declared.value.Dir.{Dir}
-use Rattle.ds_desc.specs.Descs.{overlap}
 use Rattle.ds_desc.specs.declared.desc.Info.{Info}
 use Rattle.ds_desc.specs.declared.desc.Lease.{Lease}
 use Rattle.ds_desc.specs.declared.desc.RangeDesc.{RangeDesc}
@@ -79,7 +77,7 @@ known-without known s (e ∷ es) all =
       | false ↦ (all.0, known-without known s es all.1)
     ]
 
-front-known : (known : List RangeDesc) (o : Option Entry) (es : List Entry) → ((e : Entry) → o ≡ Some e → IsOneOf e.1.desc known) → AreKnown known es → AreKnown known (to_front o es)
+pub front-known : (known : List RangeDesc) (o : Option Entry) (es : List Entry) → ((e : Entry) → o ≡ Some e → IsOneOf e.1.desc known) → AreKnown known es → AreKnown known (to_front o es)
 front-known known None es one all = all
 front-known known (Some e) es one all = (one e refl, known-without known e.0 es all)
 

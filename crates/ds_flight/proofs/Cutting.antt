@@ -1,6 +1,5 @@
 -- A rest cut at the route of its first key.
-use Rattle.std.proofs.Common.{◌≡◌, ℕ, ◌+◌, ◌<◌, Bool, true, false, cond, ◌&&◌, List, [], ◌∷◌, ◌++◌, map, length, Option, Some, None, refl, sym, ap, ◌∙◌, subst, append_assoc, arith}
-use Rattle.std.specs.List.{list_all}
+use Rattle.std.proofs.Common.{◌≡◌, ℕ, ◌<◌, true, false, cond, List, [], ◌∷◌, ◌++◌, map, length, Option, Some, None, refl, sym, ap, ◌∙◌, subst, append_assoc, arith}
 use Rattle.ds_base.proofs.KeyFacts.{max_first, min_first}
 use Rattle.ds_base.proofs.OrderedFacts.{le_trans}
 use Rattle.ds_base.proofs.SmallFacts.{and_both, and_first, and_second, none_some, some_same}
@@ -19,23 +18,23 @@ use Rattle.ds_kind.specs.declared.batch.Piece.{Piece}
 use Rattle.ds_kind.specs.declared.request.Request.{Request}
 use Rattle.ds_cover.proofs.Cutting.{cut-near, near-covered, point-kept, within-keeps}
 use Rattle.ds_cover.proofs.Lessening.{cut_items-spans}
-use Rattle.ds_cover.proofs.Measuring.{keeps-left, left-append}
+use Rattle.ds_cover.proofs.Measuring.{keeps-left}
 use Rattle.ds_cover.proofs.Moving.{drops-empty}
 use Rattle.ds_cover.proofs.Proper.{cuts-proper, rest-proper}
 use Rattle.ds_cover.proofs.Tracing.{stay-cuts}
 use Rattle.ds_cover.specs.Coverage.{Covered}
-use Rattle.ds_cover.specs.Cuts.{cut_by, cut_item, cut_items, rest_items, within, AllNear}
+use Rattle.ds_cover.specs.Cuts.{cut_items, rest_items, within, AllNear}
 use Rattle.ds_cover.specs.Items.{AreProper}
 use Rattle.ds_cover.specs.Measures.{left_in, AllSpans, IsSpan}
 use Rattle.ds_cut.proofs.Whole.{all-cut, below_is_within, none-left}
 use Rattle.ds_cut.specs.Pieces.{cut_piece, rest_part, piece_with, ContainsSeek}
-use Rattle.ds_cut.specs.Within.{none_past, stays_within}
+use Rattle.ds_cut.specs.Within.{none_past}
 use Rattle.ds_lease.specs.Turns.{is_among}
 use Rattle.ds_rule.specs.Path.{holds_span}
-use Rattle.ds_rule.specs.Pieces.{Each, IsOneOf}
+use Rattle.ds_rule.specs.Pieces.{IsOneOf}
 use Rattle.ds_flight.specs.Flights.{Flight, AreOfPart, AllAtOnce}
 use Rattle.ds_flight.specs.Goes.{HoldsAll, InOne}
-use Rattle.ds_flight.specs.Works.{items_of, IsFlying, IsRest, IsTask, RoutedBy, Underway, work_left}
+use Rattle.ds_flight.specs.Works.{items_of, IsFlying, IsRest, IsTask, Underway, work_left}
 use Rattle.ds_flight.specs.declared.work.Flying.{Flying}
 use Rattle.ds_flight.specs.declared.work.Task.{Task}
 use Rattle.ds_flight.specs.declared.work.Task.TheVariants.{Rest, Routed}
@@ -82,8 +81,8 @@ holds-through a b (i ∷ is) h all =
     let one = and_first (holds_span b x) _ all in
     and_both _ _
     (and_both _ _
-      (le_trans a.start b.start x.start (and_first (key_le a.start b.start) _ h) (and_first (key_le b.start x.start) _ one))
-      (le_trans x.end b.end a.end (and_second (key_le b.start x.start) _ one) (and_second (key_le a.start b.start) _ h)))
+    (le_trans a.start b.start x.start (and_first (key_le a.start b.start) _ h) (and_first (key_le b.start x.start) _ one))
+    (le_trans x.end b.end a.end (and_second (key_le b.start x.start) _ one) (and_second (key_le a.start b.start) _ h)))
     (holds-through a b is h (and_second (holds_span b x) _ all))
 
 held-within : (d : Dir) (span : Extent) (items : List Item) → HoldsAll span items → none_past d span items ≡ true

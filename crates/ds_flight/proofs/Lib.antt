@@ -1,6 +1,11 @@
+pub mod Ahead
 pub mod Caching
 pub mod Cutting
 pub mod Examples
 pub mod Joins
+pub mod Routing
+pub mod Searching
+pub mod Sending
 pub mod Stepping
+pub mod TakingOff
 pub mod Working

@@ -1,19 +1,15 @@
 -- What a flight did in one lookup or one send.
-use Rattle.std.proofs.Common.{◌≡◌, ℕ, List, [], ◌∷◌, ◌++◌, map, Option, refl, sym, ap, ◌∙◌, subst}
+use Rattle.std.proofs.Common.{◌≡◌, ℕ, List, [], ◌∷◌, ◌++◌, map, Option, refl, sym, ◌∙◌, subst}
 use Rattle.ds_base.specs.Order.{Extent}
 use Rattle.ds_base.specs.Counts.{Rose}
 use Rattle.ds_base.proofs.SmallFacts.{append_nil}
-use Rattle.ds_cache.specs.Entries.{Entry}
 use Rattle.ds_desc.specs.declared.desc.RangeDesc.{RangeDesc}
-use Rattle.ds_kind.specs.declared.batch.Item.{Item}
-use Rattle.ds_kind.specs.declared.reply.Failure.{Failure}
 use Rattle.ds_kind.specs.Left.{left_after}
-use Rattle.ds_gather.specs.declared.arrival.Arrival.{Arrival}
 use Rattle.ds_retry.specs.Counted.{Counts}
 use Rattle.ds_rule.specs.declared.event.Event.{Event}
 use Rattle.ds_rule.specs.declared.journal.JournalStep.{JournalStep}
-use Rattle.ds_rule.specs.Clauses.{Stands, Stays, Steps, IsLost, IsRefused, and_step}
-use Rattle.ds_rule.specs.Journal.{Happening, Moved, Did, Runs}
+use Rattle.ds_rule.specs.Clauses.{Stays, Steps, IsLost, IsRefused, and_step}
+use Rattle.ds_rule.specs.Journal.{Moved}
 use Rattle.ds_rule.specs.Moves.{IsMove}
 use Rattle.ds_rule.specs.Path.{IsHigh, LosesOnly}
 use Rattle.ds_rule.specs.Pieces.{Each}

@@ -1,7 +1,7 @@
 -- The work that is left of a part, as it is routed, cut, done and given back.
-use Rattle.std.proofs.Common.{◌≡◌, ℕ, ◌+◌, ◌<◌, true, List, [], ◌∷◌, ◌++◌, map, length, Option, Some, None, inl, inr, refl, sym, ap, ◌∙◌, subst, append_assoc, arith}
+use Rattle.std.proofs.Common.{◌≡◌, ℕ, ◌<◌, List, [], ◌∷◌, ◌++◌, map, length, Option, Some, None, inl, inr, refl, sym, subst, append_assoc}
 use Rattle.std.proofs.lemmas.List.Elements.{All-nil, All-cons, All-head, All-tail}
-use Rattle.std.proofs.lemmas.List.Sorted.{All-permutation, sum_by-IsPermutation, IsPermutation-map, IsPermutation-append_right, IsPermutation-sym, IsPermutation-middle}
+use Rattle.std.proofs.lemmas.List.Sorted.{All-permutation, IsPermutation-map, IsPermutation-append_right}
 use Rattle.std.specs.List.{All}
 use Rattle.std.specs.List.Sorted.{IsPermutation}
 use Rattle.ds_base.specs.Order.{Extent}
@@ -11,17 +11,16 @@ use Rattle.ds_kind.specs.declared.batch.Part.{Part}
 use Rattle.ds_kind.specs.declared.batch.Piece.{Piece}
 use Rattle.ds_cover.specs.Coverage.{Covered}
 use Rattle.ds_cover.specs.Items.{AreProper}
-use Rattle.ds_cover.specs.Measures.{left_in}
-use Rattle.ds_cover.proofs.Moving.{covered-first, covered-front, covered-back, drops-empty}
+use Rattle.ds_cover.proofs.Moving.{covered-first}
 use Rattle.ds_cover.proofs.Sharing.{stays-covered}
 use Rattle.ds_cover.proofs.Tracing.{cuts-of-all}
 use Rattle.ds_rule.specs.declared.answer.Answer.{Answer}
-use Rattle.ds_rule.specs.declared.journal.JournalStep.TheVariants.{Look, Send}
+use Rattle.ds_rule.specs.declared.journal.JournalStep.TheVariants.{Send}
 use Rattle.ds_rule.specs.Journal.{Happening, Moved, Did}
 use Rattle.ds_rule.specs.Pieces.{Each, IsOneOf}
-use Rattle.ds_flight.specs.Flights.{Flight, AreOfPart, AllAtOnce, PieceOfPart}
-use Rattle.ds_flight.specs.Goes.{GoesBy, StepGoes, known_after, descs_of, told_by}
-use Rattle.ds_flight.specs.Works.{items_of, IsFlying, IsRest, IsTask, RoutedBy, Underway, work_left}
+use Rattle.ds_flight.specs.Flights.{Flight, AllAtOnce, PieceOfPart}
+use Rattle.ds_flight.specs.Goes.{StepGoes, known_after, descs_of, told_by}
+use Rattle.ds_flight.specs.Works.{items_of, IsFlying, IsTask, Underway}
 use Rattle.ds_flight.specs.declared.work.Flying.{Flying}
 use Rattle.ds_flight.specs.declared.work.Task.{Task}
 use Rattle.ds_flight.specs.declared.work.Task.TheVariants.{Rest, Routed}
@@ -120,6 +119,7 @@ flying-rest f known r c same is =
 
 pub flying-goes : (f : Flight) (known : List RangeDesc) (r : Flying) (left : Option ℕ) (p : Piece) (a : Answer) → p ≡ record (r.piece) { head = record (f.head) { left = left } } → IsFlying f known r → PieceOfPart f left p × StepGoes f.whole known (Send r.node p a)
 flying-goes f known r left p a same is =
-    subst (λ x. PieceOfPart f left x × StepGoes f.whole known (Send r.node x a)) (sym same)
-    (record { head = refl; some = is.some; of = is.of; dir = is.dir },
-     (is.desc, is.is_known, record { replica = is.by.node; range = is.by.range; held = is.by.held; one = is.by.one }))
+    subst (λ x. PieceOfPart f left x × StepGoes f.whole known (Send r.node x a)) (sym same) (
+      record { head = refl; some = is.some; of = is.of; dir = is.dir },
+      (is.desc, is.is_known, record { replica = is.by.node; range = is.by.range; held = is.by.held; one = is.by.one }),
+    )

@@ -4,4 +4,6 @@ pub mod Flights
 pub mod Goes
 pub mod Left
 pub mod Ran
+pub mod Routes
+pub mod Searches
 pub mod Works

@@ -1,11 +1,15 @@
 -- The work that is left of a part: rests and routed pieces.
-use Rattle.std.specs.Prelude.{◌≡◌, ℕ, ◌+◌, ◌<◌, true, List, [], ◌∷◌, ◌++◌, map, length, Option}
+use Rattle.std.specs.Prelude.{◌≡◌, ℕ, ◌+◌, ◌<◌, true, List, [], ◌∷◌, ◌++◌, map, length, Option, Some}
 use Rattle.ds_base.specs.Order.{Extent}
 use Rattle.ds_desc.specs.declared.desc.RangeDesc.{RangeDesc}
+use Rattle.ds_desc.specs.declared.desc.Info.{Info}
+use Rattle.ds_kind.specs.declared.batch.Head.{Head}
 use Rattle.ds_kind.specs.declared.batch.Item.{Item}
+use Rattle.ds_kind.specs.declared.batch.Part.{Part}
 use Rattle.ds_cover.specs.Coverage.{Covered}
 use Rattle.ds_cover.specs.Measures.{left_in, AllSpans}
-use Rattle.ds_lease.specs.Turns.{is_among}
+use Rattle.ds_cut.specs.Pieces.{cut_piece}
+use Rattle.ds_lease.specs.Turns.{Places, is_among, next_of, order_of, advanced}
 use Rattle.ds_rule.specs.Pieces.{Each, IsOneOf}
 use Rattle.ds_flight.specs.Flights.{Flight, AreOfPart}
 use Rattle.ds_flight.specs.Goes.{HoldsAll, InOne}
@@ -53,3 +57,16 @@ pub record Underway (f : Flight) (known : List RangeDesc) (done : List (List Ite
 abbrev pub work_left : List Task → ℕ
 work_left [] = 0
 work_left (t ∷ ts) = left_in (items_of t) + work_left ts
+
+-- the first node of a row's replicas that is tried, the leaseholder if it is one, and those after it
+pub record FirstNode (i : Info) (o : Places) (node : ℕ) : Type 0 where
+  pub first : next_of (order_of i) ≡ Some node
+  pub order : o ≡ advanced (order_of i)
+  pub replicas : o.replicas ≡ i.desc.nodes
+  pub replica : is_among node i.desc.nodes ≡ true
+
+-- the piece that is cut off a rest at a route, on its way to the first node
+pub record TakenOff (head : Head) (i : Info) (c : Part) (token : ℕ) (r : Flying) : Type 0 where
+  pub piece : cut_piece head i.desc c ≡ Some r.piece
+  pub by : FirstNode i r.order r.node
+  pub token_is : r.token ≡ token

@@ -1,4 +1,7 @@
 //! Sends one part over ranges that may move.
 #![tactic(auto)]
 
+mod route;
+mod span;
+mod take_off;
 mod work;
