@@ -3,6 +3,7 @@ pub mod Caching
 pub mod Cutting
 pub mod Examples
 pub mod Joins
+pub mod Placing
 pub mod Routing
 pub mod Searching
 pub mod Sending

@@ -3,6 +3,7 @@ pub mod Counting
 pub mod Flights
 pub mod Goes
 pub mod Left
+pub mod Places
 pub mod Ran
 pub mod Routes
 pub mod Searches
