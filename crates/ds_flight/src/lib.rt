@@ -1,6 +1,7 @@
 //! Sends one part over ranges that may move.
 #![tactic(auto)]
 
+mod cut;
 mod places;
 mod route;
 mod span;
