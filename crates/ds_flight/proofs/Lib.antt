@@ -1,0 +1,12 @@
+pub mod Ahead
+pub mod Caching
+pub mod Cutting
+pub mod Examples
+pub mod Joins
+pub mod Placing
+pub mod Routing
+pub mod Searching
+pub mod Sending
+pub mod Stepping
+pub mod TakingOff
+pub mod Working

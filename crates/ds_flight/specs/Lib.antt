@@ -1,0 +1,10 @@
+pub mod Causes
+pub mod Counting
+pub mod Flights
+pub mod Goes
+pub mod Left
+pub mod Places
+pub mod Ran
+pub mod Routes
+pub mod Searches
+pub mod Works

@@ -1,0 +1,9 @@
+//! Sends one part over ranges that may move.
+#![tactic(auto)]
+
+mod cut;
+mod places;
+mod route;
+mod span;
+mod take_off;
+mod work;
