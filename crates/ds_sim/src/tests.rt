@@ -1,5 +1,6 @@
 //! Each public call, on a cluster of one range.
-ghost use Rattle.std.specs.Prelude.{◌≡◌, true, list_all, IfOk};
+ghost use Rattle.std.specs.Prelude.{◌≡◌, true, IfOk};
+ghost use Rattle.std.specs.List.{list_all};
 ghost use Rattle.ds_kind.specs.Asks.{has_proper_span};
 ghost use Rattle.ds_kind.specs.Parts.{requests_of};
 
