@@ -8,6 +8,9 @@ python3 tests/measure.py --cache crates/ds_bench/out/ds_bench times a call of th
 large one: calls that go from range to range, sixteen at a time, as batches do, and calls at random, each of which finds
 none of what it touches in the processor's own memory. It ends with status 1 where the first take more than 2.5 times as
 long in the large cache.
+
+python3 tests/measure.py --cluster crates/ds_sim_bench/out/ds_sim_bench times an event or a lookup of the simulated
+cluster alone, over 1, 100 and 10,000 ranges.
 """
 
 import json
@@ -21,6 +24,8 @@ LENGTHS = [5_000, 10_000, 19_998]
 CACHE_SIZES = [1_000, 65_536]
 CACHE_CALLS = 1_000_000
 CACHE_FACTOR = 2.5
+CLUSTER_SIZES = [1, 100, 10_000]
+CLUSTER_CALLS = 100_000
 
 
 def cluster(ranges):
@@ -87,12 +92,24 @@ def seconds(command):
     return usage.ru_utime + usage.ru_stime
 
 
+def time_of_call(words, calls):
+    """What one of so many calls takes beside what comes before the first, the least of three."""
+    took = [min(seconds(words + [str(count)]) for _ in range(3)) for count in [0, calls]]
+    return (took[1] - took[0]) / calls
+
+
+def measure_cluster(program):
+    for size in CLUSTER_SIZES:
+        time = time_of_call([program, str(size)], CLUSTER_CALLS)
+        print(f"cluster of {size:6} ranges: {time * 1e6:5.2f} microseconds a step")
+    sys.exit()
+
+
 def cache_factor(program, sort):
-    """How many times as long a call takes in the larger cache: a million of them, the least of three."""
+    """How many times as long a call takes in the larger cache."""
     times = []
     for size in CACHE_SIZES:
-        took = [min(seconds([program, sort, str(size), str(calls)]) for _ in range(3)) for calls in [0, CACHE_CALLS]]
-        times.append((took[1] - took[0]) / CACHE_CALLS)
+        times.append(time_of_call([program, sort, str(size)], CACHE_CALLS))
         print(f"  cache of {size:6} entries: {times[-1] * 1e6:5.2f} microseconds a call")
     print(f"  {times[1] / times[0]:.2f} times as long in the larger one")
     return times[1] / times[0]
@@ -108,6 +125,8 @@ def measure_cache(program):
 def main():
     if sys.argv[1] == "--cache":
         measure_cache(sys.argv[2])
+    if sys.argv[1] == "--cluster":
+        measure_cluster(sys.argv[2])
     if sys.argv[1] == "--script":
         print("\n".join(json.dumps(line) for line in SORTS[sys.argv[2]](int(sys.argv[3]))))
         return
