@@ -7,12 +7,12 @@ use Rattle.ds_base.specs.declared.value.Value.TheVariants.{Int}
 use Rattle.ds_rule.specs.declared.event.Event.TheVariants as events
 use Rattle.ds_fields.specs.declared.fault.FaultKind.TheVariants.{Shape, Order, LowWrite, TxnOpen}
 use Rattle.ds_fields.specs.Members.{op_of}
+use Rattle.ds_line.specs.Events.{timed}
+use Rattle.ds_line.specs.Happenings.{happening_of}
 use Rattle.ds_script.specs.declared.line.Line.{Line}
 use Rattle.ds_script.specs.declared.line.Line.TheVariants as lines
 use Rattle.ds_script.specs.declared.state.State.{State}
-use Rattle.ds_script.specs.Events.{timed}
 use Rattle.ds_script.specs.Forms.{form_of, line_by, close_of, range, cluster, batch, block, begin, at_of}
-use Rattle.ds_script.specs.Happenings.{happening_of}
 use Rattle.ds_script.specs.Limits.{key_fits, stamp_fits, line_fits}
 use Rattle.ds_script.specs.Rules.{opened, turn, claims, step}
 use Rattle.ds_script.specs.Script.{fault, script_of}

@@ -10,6 +10,8 @@ use Rattle.ds_kind.specs.declared.request.Request.{Request}
 use Rattle.ds_kind.specs.declared.batch.Batch.{Batch}
 use Rattle.ds_rule.specs.declared.cluster.ClusterRange.{ClusterRange}
 use Rattle.ds_rule.specs.declared.event.Block.{Block}
+use Rattle.ds_rule.specs.declared.event.Event.{Event}
+use Rattle.ds_rule.specs.declared.event.Event.TheVariants as events
 use Rattle.ds_rule.specs.declared.event.Timed.{Timed}
 use Rattle.ds_fields.specs.declared.fault.FaultKind.{FaultKind}
 use Rattle.ds_fields.specs.declared.fault.FaultKind.TheVariants.{Shape}
@@ -17,11 +19,13 @@ use Rattle.ds_fields.specs.Fault.{◌>>=◌, need, map1, map2, map3, map4}
 use Rattle.ds_fields.specs.Members.{only, the, optional, bool_of, op_of}
 use Rattle.ds_fields.specs.Scalars.{key_of, whole_of, number_of, some_number_of}
 use Rattle.ds_fields.specs.Lists.{list_of, nodes_of}
+use Rattle.ds_line.specs.Events.{timed_of}
+use Rattle.ds_line.specs.Happenings.{happening_of}
+use Rattle.ds_line.specs.Requests.{request_of}
 use Rattle.ds_script.specs.declared.line.Line.{Line}
 use Rattle.ds_script.specs.declared.line.Line.TheVariants as lines
-use Rattle.ds_script.specs.Events.{timed_of}
-use Rattle.ds_script.specs.Happenings.{line_of, happening_of}
-use Rattle.ds_script.specs.Requests.{request_of}
+
+-- Parts of one object are read in any order, as each of them has the same fault.
 
 -- what every line says: what it is
 abbrev pub of_line : List (List ℕ)
@@ -35,9 +39,9 @@ range k ns n = record { start = k; nodes = ns; lease = n }
 unfoldable pub range_of : Data → Result (Option ClusterRange) FaultKind
 range_of d = do
   _ ← only (codes "start" ∷ codes "nodes" ∷ codes "lease" ∷ []) d
-  start ← the (codes "start") key_of d
-  nodes ← the (codes "nodes") nodes_of d
   lease ← the (codes "lease") (number_of 8) d
+  nodes ← the (codes "nodes") nodes_of d
+  start ← the (codes "start") key_of d
   Ok (map3 range start nodes lease)
 
 abbrev pub cluster : ℕ → List ClusterRange → Line
@@ -98,9 +102,9 @@ batch a c l rs = record { at = a; consistent = c; limit = l; requests = rs }
 unfoldable pub asked_of : Key → Data → Result (Option Batch) FaultKind
 asked_of anchor d = do
   at ← at_of (get (codes "txn") d) (get (codes "stamp") d)
-  requests ← the (codes "requests") (list_of (request_of anchor)) d
   consistent ← optional bool_of true (get (codes "consistent") d)
   limit ← optional some_number_of None (get (codes "limit") d)
+  requests ← the (codes "requests") (list_of (request_of anchor)) d
   Ok (map4 batch at consistent limit requests)
 
 abbrev pub block : List Timed → List ℕ → Block
@@ -125,8 +129,27 @@ batch_of anchor d = do
 
 -- ---- by the text of `op`
 
+-- the line on which an event happens by itself; one that names a step of a batch has none
+abbrev pub line_of : Event → Option Line
+line_of (events.Write k s v) = Some (lines.Write k s v)
+line_of (events.Split k) = Some (lines.Split k)
+line_of (events.Merge k) = Some (lines.Merge k)
+line_of (events.Lease k n) = Some (lines.Lease k n)
+line_of (events.Move k ns) = Some (lines.Move k ns)
+line_of (events.Stale k b) = Some (lines.Stale k b)
+line_of events.Abort = Some lines.Abort
+line_of (events.Arrive c) = Some (lines.Arrive c)
+line_of (events.LoseRequest c) = None
+line_of (events.LoseReply c) = None
+line_of (events.Copy c) = None
+line_of (events.Restart t) = None
+
+abbrev pub alone : Option Event → Result (Option Line) FaultKind
+alone None = Ok None
+alone (Some e) = need (line_of e) >>= λ l. Ok (Some l)
+
 abbrev pub other_of : List ℕ → Data → Result (Option Line) FaultKind
-other_of op d = happening_of of_line op d >>= λ h. Ok (map1 line_of h)
+other_of op d = happening_of of_line op d >>= alone
 
 unfoldable pub line_by : Key → List ℕ → Data → Result (Option Line) FaultKind
 line_by anchor op d =

@@ -1,12 +1,9 @@
-pub mod Events
 pub mod Examples
 pub mod Forms
-pub mod Happenings
 pub mod Journals
 pub mod Limits
 pub mod Lines
 pub mod PlainRuns
-pub mod Requests
 pub mod Rules
 pub mod Runs
 pub mod Script

@@ -1,25 +1,24 @@
 //! The forms of lines: what the JSON of one line says.
-ghost use Rattle.std.specs.Prelude.{◌≡◌, [], option_map};
+ghost use Rattle.std.specs.Prelude.{◌≡◌, [], Some, option_map};
 ghost use Rattle.serde_json.specs.View.{view};
 ghost use Rattle.ds_fields.specs.Fault.{Reads, map3};
 ghost use Rattle.ds_fields.specs.Members.{optional};
 ghost use Rattle.ds_fields.specs.Lists.{list_of};
 ghost use Rattle.ds_fields.specs.Scalars.{number_of};
-ghost use Rattle.ds_script.specs.Events.{timed_of};
-ghost use Rattle.ds_script.specs.Forms.{cluster_of, range, range_of, begin_of, close_of, restart_of, at_of, block_of, asked_of, batch_of, line_by, form_of};
+ghost use Rattle.ds_line.specs.Events.{timed_of};
+ghost use Rattle.ds_line.specs.Requests.{request_of};
+ghost use Rattle.ds_script.specs.Forms.{cluster_of, range, range_of, begin_of, close_of, restart_of, at_of, block_of, asked_of, batch_of, alone, line_of, line_by, form_of};
 
-use crate::event::EventReader;
-use crate::happening::happening_of;
 use crate::line::Line;
-use crate::request::RequestReader;
 use ds_base::{Copies, Key, Stamp};
 use ds_desc::Nodes;
 use ds_fields::{
     FaultKind, LineFault, Reader, byte_of, flag_of, has_only, key_of, list_of, member, nodes_of,
     op_of, optional_member, small_if_there, small_list_of, whole_of,
 };
-use ds_kind::Batch;
-use ds_rule::{Block, Cluster, ClusterRange, Events, Picks};
+use ds_kind::{Batch, Requests};
+use ds_line::{EventReader, RequestReader, happening_of};
+use ds_rule::{Block, Cluster, ClusterRange, Event, Events, Picks};
 use serde_json::Value as Json;
 use std::alloc::Global;
 
@@ -44,9 +43,38 @@ fn line_by(alloc: Global, anchor: &Key, op: &str, json: &Json) -> Result<Option<
         "restart" => restart_of(json),
         "batch" => batch_of(alloc, anchor, json),
         _ => match happening_of(alloc, json, &["op"], op)? {
-            Some(happening) => Ok(Some(happening.into_line())),
+            Some(event) => alone(event),
             None => Ok(None),
         },
+    }
+}
+
+fn alone(event: Event) -> Result<Option<Line>, LineFault>
+    ensures { Reads result (alone (Some event)) }
+{
+    match line_of(event) {
+        Some(line) => Ok(Some(line)),
+        None => Err(LineFault::Bad(FaultKind::Shape)),
+    }
+}
+
+/// The line on which an event happens by itself; one that names a step of a batch has none.
+fn line_of(event: Event) -> Option<Line>
+    ensures { result ≡ line_of event }
+{
+    match event {
+        Event::Write { key, stamp, value } => Some(Line::Write { key, stamp, value }),
+        Event::Split { key } => Some(Line::Split { key }),
+        Event::Merge { key } => Some(Line::Merge { key }),
+        Event::Lease { key, node } => Some(Line::Lease { key, node }),
+        Event::Move { key, nodes } => Some(Line::Move { key, nodes }),
+        Event::Stale { key, back } => Some(Line::Stale { key, back }),
+        Event::Abort => Some(Line::Abort),
+        Event::Arrive { copy } => Some(Line::Arrive { copy }),
+        Event::LoseRequest { .. }
+        | Event::LoseReply { .. }
+        | Event::Copy { .. }
+        | Event::Restart { .. } => None,
     }
 }
 
@@ -79,9 +107,9 @@ impl Reader for RangeReader {
         if !has_only(json, &[], &["start", "nodes", "lease"]) {
             return Err(LineFault::Bad(FaultKind::Shape));
         }
-        let start = key_of(alloc, member(json, "start")?)?;
-        let nodes = nodes_of(alloc, member(json, "nodes")?)?;
         let lease = byte_of(member(json, "lease")?)?;
+        let nodes = nodes_of(alloc, member(json, "nodes")?)?;
+        let start = key_of(alloc, member(json, "start")?)?;
         Ok(range(start, nodes, lease))
     }
 }
@@ -186,17 +214,23 @@ fn block_of(alloc: Global, json: &Json) -> Result<Option<Block>, LineFault>
     }
 }
 
-#[tactic(auto, unfolding(crate::specs::Forms::asked_of))]
-fn asked_of(alloc: Global, anchor: &Key, json: &Json) -> Result<Option<Batch>, LineFault>
-    ensures { Reads result (asked_of anchor.now (view json.now)) }
+fn requests_of(alloc: Global, anchor: &Key, json: &Json) -> Result<Option<Requests>, LineFault>
+    ensures { Reads result (list_of (request_of anchor.now) (view json.now)) }
 {
     let reader = RequestReader {
         anchor: anchor.copy(alloc)?,
     };
+    list_of(alloc, &reader, json)
+}
+
+#[tactic(auto, unfolding(crate::specs::Forms::asked_of))]
+fn asked_of(alloc: Global, anchor: &Key, json: &Json) -> Result<Option<Batch>, LineFault>
+    ensures { Reads result (asked_of anchor.now (view json.now)) }
+{
     let at = at_of(optional_member(json, "txn"), optional_member(json, "stamp"))?;
-    let requests = list_of(alloc, &reader, member(json, "requests")?)?;
     let consistent = flag_of(optional_member(json, "consistent"), true)?;
     let limit = small_if_there(optional_member(json, "limit"))?;
+    let requests = requests_of(alloc, anchor, member(json, "requests")?)?;
     match (at, consistent, limit, requests) {
         (Some(at), Some(consistent), Some(limit), Some(requests)) => Ok(Some(Batch {
             at,

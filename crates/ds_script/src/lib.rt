@@ -5,14 +5,11 @@
 #![tactic(auto)]
 
 mod accepted;
-mod event;
 mod fault;
 mod form;
-mod happening;
 mod limits;
 mod line;
 mod read;
-mod request;
 mod rules;
 mod script;
 mod split;

@@ -2,7 +2,7 @@
 ghost use Rattle.std.specs.Prelude.{◌≡◌};
 ghost use Rattle.serde_json.specs.View.{view};
 ghost use Rattle.ds_fields.specs.Fault.{Reads, map2, map4};
-ghost use Rattle.ds_script.specs.Requests.{request_of, request_by, keys_of, key_and_value_of, key_and_number_of, put_of, init_put_of, conditional_put_of, increment_of, end_of, query_intent_of, resolve_of, resolve_range_of, admin_lease_of, scan_of, reverse_scan_of, delete_range_of, get_of, delete_of, admin_split_of, conditional_put, end};
+ghost use Rattle.ds_line.specs.Requests.{request_of, request_by, keys_of, key_and_value_of, key_and_number_of, put_of, init_put_of, conditional_put_of, increment_of, end_of, query_intent_of, resolve_of, resolve_range_of, admin_lease_of, scan_of, reverse_scan_of, delete_range_of, get_of, delete_of, admin_split_of, conditional_put, end};
 
 use ds_base::{Copies, Key, Seq, TxnNo, Value};
 use ds_fields::{
@@ -96,8 +96,8 @@ fn key_and_number_of(alloc: Global, json: &Json) -> Result<Option<(Key, u32)>, L
     ensures { Reads result (key_and_number_of (view json.now)) }
 {
     let (first, second) = pair(json)?;
-    let key = key_of(alloc, first)?;
     let number = small_of(second)?;
+    let key = key_of(alloc, first)?;
     match (key, number) {
         (Some(key), Some(number)) => Ok(Some((key, number))),
         _ => Ok(None),
@@ -151,10 +151,10 @@ fn conditional_put_of(alloc: Global, json: &Json) -> Result<Option<Request>, Lin
     if !has_only(json, &[], &["key", "value", "expect", "allow_absent"]) {
         return Err(LineFault::Bad(FaultKind::Shape));
     }
+    let allow_absent = flag_of(optional_member(json, "allow_absent"), false)?;
     let key = key_of(alloc, member(json, "key")?)?;
     let value = value_of(alloc, member(json, "value")?)?;
     let expect = value_or_null_of(alloc, member(json, "expect")?)?;
-    let allow_absent = flag_of(optional_member(json, "allow_absent"), false)?;
     Ok(conditional_put(key, value, expect, allow_absent))
 }
 
@@ -195,8 +195,8 @@ fn increment_of(alloc: Global, json: &Json) -> Result<Option<Request>, LineFault
     ensures { Reads result (increment_of (view json.now)) }
 {
     let (first, second) = pair(json)?;
-    let key = key_of(alloc, first)?;
     let by = int_of(second)?;
+    let key = key_of(alloc, first)?;
     match (key, by) {
         (Some(key), Some(by)) => Ok(Some(Request::Increment(IncrementArgs { key, by }))),
         _ => Ok(None),
@@ -289,9 +289,9 @@ fn resolve_range_of(alloc: Global, json: &Json) -> Result<Option<Request>, LineF
     ensures { Reads result (resolve_range_of (view json.now)) }
 {
     let (first, second, third) = triple(json)?;
+    let txn = small_of(third)?;
     let start = key_of(alloc, first)?;
     let end = key_of(alloc, second)?;
-    let txn = small_of(third)?;
     match (start, end, txn) {
         (Some(start), Some(end), Some(txn)) => {
             Ok(Some(Request::ResolveIntentRange(ResolveIntentRangeArgs {
@@ -319,8 +319,8 @@ fn admin_lease_of(alloc: Global, json: &Json) -> Result<Option<Request>, LineFau
     ensures { Reads result (admin_lease_of (view json.now)) }
 {
     let (first, second) = pair(json)?;
-    let key = key_of(alloc, first)?;
     let node = byte_of(second)?;
+    let key = key_of(alloc, first)?;
     match (key, node) {
         (Some(key), Some(node)) => Ok(Some(Request::AdminTransferLease(AdminTransferLeaseArgs {
             key,

@@ -1,4 +1,5 @@
--- The requests of a batch line: each is an object of one member, whose name says the kind.
+-- The requests of a batch line: each is an object of one member, whose name says the kind. The parts of a request are
+-- read in any order, as each of them has the same fault.
 use Rattle.std.specs.Prelude.{ℕ, ℤ, List, [], ◌∷◌, Bool, false, codes, if◌then◌else◌, Option, Result, Ok, Err}
 use Rattle.std.specs.Str.{bytes_eq}
 use Rattle.serde_json.specs.Data.{Data}
@@ -37,8 +38,8 @@ key_and_value_of d = do
 unfoldable pub key_and_number_of : Data → Result (Option (Key × ℕ)) FaultKind
 key_and_number_of d = do
   p ← need (pair d)
-  key ← key_of p.0
   number ← number_of 32 p.1
+  key ← key_of p.0
   Ok (map2 (λ k n. (k, n)) key number)
 
 -- ---- the kinds
@@ -81,10 +82,10 @@ conditional_put k v e a = ConditionalPut (record { key = k; value = v; expect = 
 unfoldable pub conditional_put_of : Data → Result (Option Request) FaultKind
 conditional_put_of d = do
   _ ← only (codes "key" ∷ codes "value" ∷ codes "expect" ∷ codes "allow_absent" ∷ []) d
+  allow_absent ← optional bool_of false (json.get (codes "allow_absent") d)
   key ← the (codes "key") key_of d
   value ← the (codes "value") value_of d
   expect ← the (codes "expect") value_or_null_of d
-  allow_absent ← optional bool_of false (json.get (codes "allow_absent") d)
   Ok (map4 conditional_put key value expect allow_absent)
 
 abbrev pub init_put : Key × Value → Request
@@ -101,8 +102,8 @@ increment k n = Increment (record { key = k; by = n })
 unfoldable pub increment_of : Data → Result (Option Request) FaultKind
 increment_of d = do
   p ← need (pair d)
-  key ← key_of p.0
   by ← int_of p.1
+  key ← key_of p.0
   Ok (map2 increment key by)
 
 abbrev pub delete : Key → Request
@@ -155,9 +156,9 @@ resolve_range s e n = ResolveIntentRange (record { start = s; end = e; txn = rec
 unfoldable pub resolve_range_of : Data → Result (Option Request) FaultKind
 resolve_range_of d = do
   p ← need (triple d)
+  txn ← number_of 32 p.2
   start ← key_of p.0
   end ← key_of p.1
-  txn ← number_of 32 p.2
   Ok (map3 resolve_range start end txn)
 
 abbrev pub admin_split : Key → Request
@@ -174,8 +175,8 @@ admin_lease k n = AdminTransferLease (record { key = k; node = n })
 unfoldable pub admin_lease_of : Data → Result (Option Request) FaultKind
 admin_lease_of d = do
   p ← need (pair d)
-  key ← key_of p.0
   node ← number_of 8 p.1
+  key ← key_of p.0
   Ok (map2 admin_lease key node)
 
 -- ---- by the member's name

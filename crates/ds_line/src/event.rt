@@ -2,9 +2,9 @@
 ghost use Rattle.std.specs.Prelude.{◌≡◌};
 ghost use Rattle.serde_json.specs.View.{view};
 ghost use Rattle.ds_fields.specs.Fault.{Reads};
-ghost use Rattle.ds_script.specs.Events.{timed_of, event_by, lose_request_of, lose_reply_of, copy_of};
+ghost use Rattle.ds_line.specs.Events.{timed_of, event_by, kept_copy_of, lose_request_of, lose_reply_of, copy_of};
 
-use crate::happening::happening_of;
+use crate::happening::{happening_of, lone_copy_of};
 use ds_fields::{
     FaultKind, LineFault, Reader, has_only, member, op_of, optional_member, small_if_there,
     small_of,
@@ -24,8 +24,9 @@ impl Reader for EventReader {
 
     #[tactic(auto, unfolding(crate::specs::Events::timed_of))]
     fn read(&self, alloc: Global, json: &Json) -> Result<Option<Timed>, LineFault> {
-        let event = event_by(alloc, json, op_of(json)?)?;
+        let op = op_of(json)?;
         let at = small_of(member(json, "at")?)?;
+        let event = event_by(alloc, json, op)?;
         match (at, event) {
             (Some(at), Some(event)) => Ok(Some(Timed { at, event })),
             _ => Ok(None),
@@ -41,21 +42,26 @@ fn event_by(alloc: Global, json: &Json, op: &str) -> Result<Option<Event>, LineF
         "lose_request" => lose_request_of(json),
         "lose_reply" => lose_reply_of(json),
         "copy" => copy_of(json),
-        _ => match happening_of(alloc, json, &["op", "at"], op)? {
-            Some(happening) => Ok(Some(happening.into_event())),
-            None => Ok(None),
-        },
+        _ => happening_of(alloc, json, &["op", "at"], op),
     }
+}
+
+/// The copy that stays of what is lost, if one does.
+#[tactic(auto, unfolding(crate::specs::Events::kept_copy_of))]
+fn kept_copy_of(json: &Json) -> Result<Option<Option<u32>>, LineFault>
+    ensures { Reads result (kept_copy_of (view json.now)) }
+{
+    if !has_only(json, &["op", "at"], &["copy"]) {
+        return Err(LineFault::Bad(FaultKind::Shape));
+    }
+    small_if_there(optional_member(json, "copy"))
 }
 
 #[tactic(auto, unfolding(crate::specs::Events::lose_request_of))]
 fn lose_request_of(json: &Json) -> Result<Option<Event>, LineFault>
     ensures { Reads result (lose_request_of (view json.now)) }
 {
-    if !has_only(json, &["op", "at"], &["copy"]) {
-        return Err(LineFault::Bad(FaultKind::Shape));
-    }
-    match small_if_there(optional_member(json, "copy"))? {
+    match kept_copy_of(json)? {
         Some(copy) => Ok(Some(Event::LoseRequest { copy })),
         None => Ok(None),
     }
@@ -65,10 +71,7 @@ fn lose_request_of(json: &Json) -> Result<Option<Event>, LineFault>
 fn lose_reply_of(json: &Json) -> Result<Option<Event>, LineFault>
     ensures { Reads result (lose_reply_of (view json.now)) }
 {
-    if !has_only(json, &["op", "at"], &["copy"]) {
-        return Err(LineFault::Bad(FaultKind::Shape));
-    }
-    match small_if_there(optional_member(json, "copy"))? {
+    match kept_copy_of(json)? {
         Some(copy) => Ok(Some(Event::LoseReply { copy })),
         None => Ok(None),
     }
@@ -78,10 +81,7 @@ fn lose_reply_of(json: &Json) -> Result<Option<Event>, LineFault>
 fn copy_of(json: &Json) -> Result<Option<Event>, LineFault>
     ensures { Reads result (copy_of (view json.now)) }
 {
-    if !has_only(json, &["op", "at"], &["copy"]) {
-        return Err(LineFault::Bad(FaultKind::Shape));
-    }
-    match small_of(member(json, "copy")?)? {
+    match lone_copy_of(json, &["op", "at"])? {
         Some(copy) => Ok(Some(Event::Copy { copy })),
         None => Ok(None),
     }
