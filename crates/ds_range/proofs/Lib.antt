@@ -7,6 +7,7 @@ pub mod Piecing
 pub mod Covering
 pub mod Dividing
 pub mod Joining
+pub mod KeyRooms
 pub mod Neighbours
 pub mod Evaluating
 pub mod Resolving

@@ -155,13 +155,6 @@ back_last us vs u es is = ap (λ zs. restored zs es) is ∙ restored-last us u e
 pub kept_more : (us vs : List Kept) (u : Kept) (old new : Cells) → vs ≡ us ++ u ∷ [] → put_back u.0 u.1 new ≡ old → restored vs new ≡ restored us old
 kept_more us vs u old new more back = back_last us vs u new more ∙ ap (restored us) back
 
-map_last : {X Y : Type 0} (f : X → Y) (xs : List X) (x : X) → map f (xs ++ x ∷ []) ≡ map f xs ++ f x ∷ []
-map_last f [] x = refl
-map_last f (y ∷ ys) x = ap (λ zs. f y ∷ zs) (map_last f ys x)
-
-pub keys_more : (us vs : List Kept) (u : Kept) → vs ≡ us ++ u ∷ [] → kept_keys vs ≡ kept_keys us ++ u.0 ∷ []
-keys_more us vs u is = ap kept_keys is ∙ map_last (λ p. p.0) us u
-
 -- changes that may want memory
 
 pub changed_ok : (k : List ℕ) (f : Content → Content) (es after : Cells) (c d : Content) → {U : Type 0} → (r : Result U AllocError) → Ascends key_of es → lookup (is_at (key_cmp k)) es ≡ Some c → OnOk r (d ≡ f c) → after ≡ set_value (is_at (key_cmp k)) es d → OnOk r (after ≡ put_cell k f es)
@@ -205,9 +198,3 @@ pub settled_take : (txn : ℕ) (commit : Option Stamp) (ks : List (List ℕ)) (i
 settled_take txn commit ks i k old now next so_far low at more =
     settled_last txn commit (take i ks) k old now next so_far more
     ∙ ap (λ qs. settled_at txn commit qs old) (ap (λ z. take i ks ++ z ∷ []) at ∙ sym (take_more ks i k low))
-
--- the keys of one write more
-pub keys_of_last : (us vs ps : List Kept) (ws : List (List ℕ × Option Value)) (w : List ℕ × Option Value) → kept_keys us ≡ kept_keys ps ++ map (λ p. p.0) ws → kept_keys vs ≡ kept_keys us ++ w.0 ∷ [] → kept_keys vs ≡ kept_keys ps ++ map (λ p. p.0) (ws ++ w ∷ [])
-keys_of_last us vs ps ws w so_far more =
-    more ∙ ap (λ ks. ks ++ w.0 ∷ []) so_far ∙ append_assoc (kept_keys ps) (map (λ p. p.0) ws) (w.0 ∷ [])
-    ∙ ap (λ ks. kept_keys ps ++ ks) (sym (map_last (λ p. p.0) ws w))

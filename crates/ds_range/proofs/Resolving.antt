@@ -20,7 +20,7 @@ use Rattle.ds_serve.specs.Writes.{keys_written}
 use Rattle.ds_serve.proofs.Limits.{Held, held_between}
 use Rattle.ds_range.specs.Covers.{has_key, IsNoted, Covers, settled_one, settled_among}
 use Rattle.ds_range.specs.Keeps.{settled_at}
-use Rattle.ds_range.specs.Resolves.{PartlyAs, PartlySettled}
+use Rattle.ds_range.specs.Resolves.{PartlyAs, PartlySettled, settle_cell}
 use Rattle.ds_range.proofs.Covering.{among_all, covers_within, no_writes, none_among, one_more, set_settled, settled_none, settled_noted, settled_twice}
 use Rattle.ds_range.proofs.Maps.{content_some, put_there, key_eq_turned}
 
@@ -197,6 +197,37 @@ partly_in txn commit x n ks es now are is =
 pub nothing_partly : (txn : ℕ) (commit : Option Stamp) (x : Extent) (es : Cells) → PartlySettled x txn (Some commit) es es
 nothing_partly txn commit x [] = tt
 nothing_partly txn commit x (p ∷ ps) = (inl refl, nothing_partly txn commit x ps)
+
+-- the same wherever the transaction has intents
+
+each_partly : (txn : ℕ) (commit : Option Stamp) (ks : List (List ℕ)) (es : Cells) → PartlyAs (settle_cell txn commit) es (settled_among txn commit ks es)
+each_partly txn commit ks [] = tt
+each_partly txn commit ks (p ∷ ps) = (
+  elim (has_key p.0 ks) as (λ t. ((p.0, cond t (settled txn commit p.1) p.1) ≡ p) ⊎ ((p.0, cond t (settled txn commit p.1) p.1) ≡ settle_cell txn commit p)) [
+    | true ↦ inr refl
+    | false ↦ inl refl
+  ],
+  each_partly txn commit ks ps,
+)
+
+pub partly_all : (txn : ℕ) (commit : Option Stamp) (ks : List (List ℕ)) (es now : Cells) → now ≡ settled_among txn commit ks es → PartlyAs (settle_cell txn commit) es now
+partly_all txn commit ks es now is = subst (PartlyAs (settle_cell txn commit) es) (sym is) (each_partly txn commit ks es)
+
+pub none_partly : (txn : ℕ) (commit : Option Stamp) (es : Cells) → PartlyAs (settle_cell txn commit) es es
+none_partly txn commit [] = tt
+none_partly txn commit (p ∷ ps) = (inl refl, none_partly txn commit ps)
+
+-- settling again settles the rest
+again_one : (txn : ℕ) (commit : Option Stamp) (p q : Cell) → (q ≡ p) ⊎ (q ≡ settle_cell txn commit p) → settle_cell txn commit q ≡ settle_cell txn commit p
+again_one txn commit p q (inl h) = ap (settle_cell txn commit) h
+again_one txn commit p q (inr h) = ap (settle_cell txn commit) h ∙ ap (λ c. (p.0, c)) (settled_twice txn commit p.1)
+
+pub settled_again : (txn : ℕ) (commit : Option Stamp) (old new : Cells) → PartlyAs (settle_cell txn commit) old new → settle_cells txn commit new ≡ settle_cells txn commit old
+settled_again txn commit [] [] h = refl
+settled_again txn commit [] (q ∷ qs) h = absurd h
+settled_again txn commit (p ∷ ps) [] h = absurd h
+settled_again txn commit (p ∷ ps) (q ∷ qs) h =
+    ap (λ z. z ∷ settle_cells txn commit qs) (again_one txn commit p q h.0) ∙ ap (λ zs. settle_cell txn commit p ∷ zs) (settled_again txn commit ps qs h.1)
 
 -- the keys with writes are among those before
 

@@ -4,4 +4,5 @@ pub mod Evaluates
 pub mod Joins
 pub mod Keeps
 pub mod Resolves
+pub mod Rooms
 pub mod Serves

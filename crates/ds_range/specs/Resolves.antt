@@ -4,6 +4,7 @@ use Rattle.std.proofs.Common.{inl, inr}
 use Rattle.ds_base.specs.Order.{Extent}
 use Rattle.ds_base.specs.declared.value.Stamp.{Stamp}
 use Rattle.ds_cell.specs.Ask.{Cell, Cells}
+use Rattle.ds_cell.specs.Change.{settled}
 use Rattle.ds_cell.specs.Content.{no_content}
 use Rattle.ds_rule.specs.Serve.{settle_one}
 
@@ -13,6 +14,10 @@ PartlyAs f [] [] = Unit {0}
 PartlyAs f [] (q ∷ qs) = ⊥
 PartlyAs f (p ∷ ps) [] = ⊥
 PartlyAs f (p ∷ ps) (q ∷ qs) = ((q ≡ p) ⊎ (q ≡ f p)) × PartlyAs f ps qs
+
+-- the transaction's intent at a key settled
+abbrev pub settle_cell : ℕ → Option Stamp → Cell → Cell
+settle_cell txn commit p = (p.0, settled txn commit p.1)
 
 -- the transaction's intents at some keys of the span are settled, if its record is decided, and all else is as before
 abbrev pub PartlySettled : Extent → ℕ → Option (Option Stamp) → Cells → Cells → Type 0

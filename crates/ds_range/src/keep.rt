@@ -1,7 +1,7 @@
 //! What is kept of the contents, so that changes can be taken back.
 ghost use Rattle.std.specs.Prelude.{◌≡◌, ◌∷◌, [], ◌++◌, OnOk, OnErr, IfErr};
 ghost use Rattle.ds_cell.specs.Store.{put_cell};
-ghost use Rattle.ds_range.specs.Keeps.{put_back, restored, kept_keys};
+ghost use Rattle.ds_range.specs.Keeps.{put_back, restored};
 
 use crate::change::{Change, change_at};
 use ds_base::{Copies, Key, ListOf};
@@ -45,7 +45,6 @@ pub(crate) fn change_kept<C: Change>(
     undo: &mut Undo,
 ) -> Result<(), AllocError>
     ensures ok { OnOk result (cells.new.entries ≡ put_cell key.now (C.after change) cells.old.entries) }
-    ensures keys { OnOk result (kept_keys undo.new ≡ kept_keys undo.old ++ key.now ∷ []) }
     ensures back { restored undo.new cells.new.entries ≡ restored undo.old cells.old.entries }
 {
     let copy = key.copy(alloc)?;

@@ -13,11 +13,8 @@ mod serve;
 mod settle;
 mod shape;
 mod state;
-#[cfg(test)]
-mod tests;
 
 pub use ask::{Asked, Writes};
 pub use keep::Undo;
 pub use piece::{Evaluation, PieceUndo};
-pub use serve::Applied;
 pub use state::RangeState;

@@ -386,17 +386,14 @@ impl RangeState {
     /// piece's ends change the record of its transaction. A failure and want of memory leave the range and
     /// the records as they were.
     ///
-    /// Where the piece has a limit, what is left of a span must be a span of keys: each span of an item is
-    /// proper, and each key that stands here has at most 64 bytes and is below the bound. So it is with the
-    /// keys that stand afterwards then, with a limit or without.
-    #[tactic(auto, using(crate::proofs::Evaluating::room_applied))]
-    pub fn apply_by(
+    /// The span of each request must be proper, so that what is left of it under a limit is a span of keys.
+    pub fn apply(
         &mut self,
         alloc: Global,
         records: &mut Records,
         piece: &Piece,
     ) -> Result<Evaluation, AllocError>
-        requires { CanResume piece.now.head.left piece.now.items (self.old).cells }
+        requires { list_all has_proper_span (requests_of piece.now.items) ≡ true }
         ensures answer { IfOk result (λ e. answer_to e ≡ answer_made (serve records.old piece.now.head piece.now.head.left piece.now.items (self.old).cells)) }
         ensures after { OnOk result (self.new ≡ record (self.old) { cells = after_made piece.now.head (serve records.old piece.now.head piece.now.head.left piece.now.items (self.old).cells) (self.old).cells }) }
         ensures records { OnOk result (records.new ≡ records_made piece.now.head piece.now.items (serve records.old piece.now.head piece.now.head.left piece.now.items (self.old).cells) records.old) }
@@ -404,7 +401,6 @@ impl RangeState {
         ensures records_back { IfOk result (λ e. reopened (ended_in e) records.new ≡ records.old) }
         ensures err { OnErr result (self.new ≡ self.old) }
         ensures err_records { OnErr result (records.new ≡ records.old) }
-        ensures room { list_all has_proper_span (requests_of piece.now.items) ≡ true → Each HasRoom (self.old).cells → Each HasRoom (self.new).cells }
     {
         let evaluation = evaluate(alloc, &mut self.cells, records, piece)?;
         let written = self.written.take();
@@ -413,7 +409,7 @@ impl RangeState {
     }
 
     /// Puts back what was kept, the last first, and the record that was ended. It takes no memory.
-    pub fn undo_by(&mut self, records: &mut Records, undo: PieceUndo)
+    pub fn undo(&mut self, records: &mut Records, undo: PieceUndo)
         ensures range { self.new ≡ record (self.old) { cells = restored undo.kept (self.old).cells } }
         ensures records { records.new ≡ reopened undo.ended records.old }
     {

@@ -5,11 +5,10 @@ ghost use Rattle.ds_cell.specs.Seen.{last_of};
 ghost use Rattle.ds_rule.specs.Close.{settle_cells};
 ghost use Rattle.ds_range.specs.Covers.{Covers, CoversIf, settled_one, settled_among};
 ghost use Rattle.ds_range.specs.Keeps.{restored, kept_keys, settled_at};
-ghost use Rattle.ds_range.specs.Serves.{undo_of};
+ghost use Rattle.ds_range.specs.Resolves.{PartlyAs, settle_cell};
 
 use crate::change::{Settle, ordered};
 use crate::keep::{Undo, change_kept};
-use crate::serve::Applied;
 use ds_base::{Copies, Key, Keys, Stamp, TxnNo};
 use ds_cell::Cell;
 use std::alloc::{AllocError, Global};
@@ -108,21 +107,6 @@ pub(crate) fn with_kept(
     }
 }
 
-/// The same, by what became of the piece.
-pub(crate) fn written_after(
-    alloc: Global,
-    cells: &BTreeMap<Key, Cell>,
-    written: Option<Keys>,
-    applied: &Applied,
-) -> Option<Keys>
-    ensures { CoversIf written (restored (undo_of applied.now) cells.now.entries) → CoversIf result cells.now.entries }
-{
-    match applied {
-        Applied::Served { undo, .. } => with_kept(alloc, cells, written, undo),
-        Applied::Failed(_) => written,
-    }
-}
-
 /// The keys at which writes can stand: all keys, where they aren't known.
 pub(crate) fn to_settle(
     alloc: Global,
@@ -184,7 +168,7 @@ pub(crate) fn settle_among(
     Ok(())
 }
 
-/// Settles the transaction's intents at the keys. After want of memory some may be settled.
+/// Settles the transaction's intents at the keys. After want of memory each key is as before or settled.
 pub(crate) fn settle_each(
     alloc: Global,
     cells: &mut BTreeMap<Key, Cell>,
@@ -196,6 +180,7 @@ pub(crate) fn settle_each(
     ensures ok { OnOk result (cells.new.entries ≡ settle_cells txn.0 commit cells.old.entries) }
     ensures covers { OnOk result (Covers keys.now cells.new.entries) }
     ensures keys { map key_of cells.new.entries ≡ map key_of cells.old.entries }
+    ensures partly { PartlyAs (settle_cell txn.0 commit) cells.old.entries cells.new.entries }
 {
     settle_among(alloc, cells, keys, txn, commit)
 }
@@ -216,19 +201,4 @@ pub(crate) fn settle_keys(
         change_kept(alloc, cells, key, Settle { txn, commit }, undo)?;
     }
     Ok(())
-}
-
-/// Settles the transaction's intents at all keys that were kept, and keeps what this took.
-pub(crate) fn settle_kept(
-    alloc: Global,
-    cells: &mut BTreeMap<Key, Cell>,
-    txn: TxnNo,
-    commit: Option<Stamp>,
-    undo: &mut Undo,
-) -> Result<(), AllocError>
-    ensures ok { OnOk result (cells.new.entries ≡ settled_at txn.0 commit (kept_keys undo.old) cells.old.entries) }
-    ensures back { restored undo.new cells.new.entries ≡ restored undo.old cells.old.entries }
-{
-    let keys = keys_kept(alloc, undo)?;
-    settle_keys(alloc, cells, keys.as_slice(), txn, commit, undo)
 }

@@ -1,32 +1,31 @@
 //! The state of one range.
-ghost use Rattle.std.specs.Prelude.{◌≡◌, [], ◌&&◌, IfOk, OnOk, OnErr, map};
+ghost use Rattle.std.specs.Prelude.{◌≡◌, [], ◌&&◌, true, IfOk, OnOk, OnErr, map};
 ghost use Rattle.std.specs.List.{list_all};
+ghost use Rattle.ds_kind.specs.Asks.{has_room};
 ghost use Rattle.ds_cell.specs.Ask.{key_of};
 ghost use Rattle.ds_cell.specs.Change.{after_foreign};
 ghost use Rattle.ds_cell.specs.Requests.{ask_request};
 ghost use Rattle.ds_cell.specs.Store.{put_cell};
-ghost use Rattle.ds_rule.specs.Asking.{at_of, ask_all};
+ghost use Rattle.ds_rule.specs.Asking.{at_of};
 ghost use Rattle.ds_rule.specs.Close.{settle_range};
-ghost use Rattle.ds_rule.specs.Deliver.{answer_made, holds_item};
+ghost use Rattle.ds_rule.specs.Deliver.{holds_item};
 ghost use Rattle.ds_range.specs.Asks.{asked_of};
-ghost use Rattle.ds_range.specs.Keeps.{restored};
-ghost use Rattle.ds_range.specs.Serves.{answer_of, undo_of, after_made};
+ghost use Rattle.ds_range.specs.Resolves.{PartlyAs, settle_cell};
 
 use crate::ask::{Asked, ask_cells};
 use crate::change::foreign_at;
-use crate::keep::{Undo, put_all_back};
-use crate::serve::{Applied, apply_to, at_of};
-use crate::settle::{settle_each, still_written, to_settle, written_after};
+use crate::serve::at_of;
+use crate::settle::{settle_each, still_written, to_settle};
 use ds_base::{Key, Keys, Stamp, TxnNo, Value};
 use ds_cell::Cell;
 use ds_desc::Info;
-use ds_kind::{Bounds, Head, Item, Piece};
+use ds_kind::{Bounds, Head, Item};
 use std::alloc::{AllocError, Global};
 use std::collections::BTreeMap;
 use std::marker::Model;
 
 /// A range with all that it holds. A contract sees the descriptor with its lease, and the contents
-/// by key.
+/// by key. Each key that stands here has room for one more byte.
 #[derive(Drop)]
 pub struct RangeState {
     pub(crate) info: Info,
@@ -38,13 +37,13 @@ pub struct RangeState {
 
 impl Model for RangeState {
     ghost use Rattle.ds_rule.specs.World.{Range};
-    ghost use Rattle.ds_range.specs.Covers.{CoversIf};
+    ghost use Rattle.ds_range.specs.Rooms.{IsKept};
 
     ghost Value = { Range };
 
     ghost view = { λ r. record { info = r.info; cells = r.cells.entries } };
 
-    ghost invariant = { λ r. CoversIf r.written r.cells.entries };
+    ghost invariant = { λ r. IsKept r.written r.cells.entries };
 }
 
 impl RangeState {
@@ -68,8 +67,8 @@ impl RangeState {
         &self.info
     }
 
-    /// A write of another client at a key of the range. Want of memory leaves the contents as they
-    /// were.
+    /// A write of another client at a key of the range, which must have room for one more byte. Want of
+    /// memory leaves the contents as they were.
     pub fn foreign(
         &mut self,
         alloc: Global,
@@ -77,6 +76,7 @@ impl RangeState {
         stamp: Stamp,
         value: Option<Value>,
     ) -> Result<(), AllocError>
+        requires { has_room key.now ≡ true }
         ensures ok { OnOk result (self.new ≡ record (self.old) { cells = put_cell key.now (after_foreign (record { stamp = stamp; value = value })) (self.old).cells }) }
         ensures err { OnErr result (self.new ≡ self.old) }
     {
@@ -90,30 +90,9 @@ impl RangeState {
         ask_cells(alloc, &self.cells, at_of(head, item.seq), &item.request)
     }
 
-    /// Serves the piece's items in order, each on what those before it left, and commits what it wrote
-    /// unless it is of a transaction. A failure and want of memory leave the range as it was.
-    pub fn apply(&mut self, alloc: Global, piece: &Piece) -> Result<Applied, AllocError>
-        ensures answer { IfOk result (λ a. answer_of a ≡ answer_made (ask_all piece.now.head piece.now.items (self.old).cells)) }
-        ensures after { IfOk result (λ a. self.new ≡ record (self.old) { cells = after_made piece.now.head (ask_all piece.now.head piece.now.items (self.old).cells) (self.old).cells }) }
-        ensures back { IfOk result (λ a. restored (undo_of a) (self.new).cells ≡ (self.old).cells) }
-        ensures err { OnErr result (self.new ≡ self.old) }
-    {
-        let applied = apply_to(alloc, &mut self.cells, piece)?;
-        let written = self.written.take();
-        self.written = written_after(alloc, &self.cells, written, &applied);
-        Ok(applied)
-    }
-
-    /// Puts back what was kept, the last first. It takes no memory.
-    pub fn undo(&mut self, undo: Undo)
-        ensures { self.new ≡ record (self.old) { cells = restored undo (self.old).cells } }
-    {
-        self.written = None;
-        put_all_back(&mut self.cells, undo);
-    }
-
     /// Settles every intent of the transaction: its last write becomes a version at the commit's
-    /// stamp, or is dropped where there is no commit. After want of memory some may be settled.
+    /// stamp, or is dropped where there is no commit. After want of memory each key is as before or
+    /// settled, so that settling again settles the rest.
     pub fn settle(
         &mut self,
         alloc: Global,
@@ -123,6 +102,7 @@ impl RangeState {
         ensures ok { OnOk result (self.new ≡ settle_range txn.0 commit self.old) }
         ensures info { (self.new).info ≡ (self.old).info }
         ensures keys { map key_of (self.new).cells ≡ map key_of (self.old).cells }
+        ensures partly { PartlyAs (settle_cell txn.0 commit) (self.old).cells (self.new).cells }
     {
         let keys = to_settle(alloc, &self.cells, self.written.take())?;
         settle_each(alloc, &mut self.cells, keys.as_slice(), txn, commit)?;

@@ -81,7 +81,7 @@ room_each d (p ∷ ps) all = room_more p.0 (d p.1) (ask_each d ps) all.0 (room_e
 
 -- the contents afterwards
 
-room_put : (k : List ℕ) (c : Content) (cells : Cells) → has_room k ≡ true → Each HasRoom cells → Each HasRoom (insert_entry key_cmp cells k c)
+pub room_put : (k : List ℕ) (c : Content) (cells : Cells) → has_room k ≡ true → Each HasRoom cells → Each HasRoom (insert_entry key_cmp cells k c)
 room_put k c [] h all = (h, tt)
 room_put k c (p ∷ ps) h all =
     elim (key_cmp k p.0) as (λ o. Each HasRoom (match_ordering o ((k, c) ∷ p ∷ ps) ((p.0, c) ∷ ps) (p ∷ insert_entry key_cmp ps k c))) [
@@ -143,7 +143,7 @@ room_settled x txn commit (p ∷ ps) all = (
   room_settled x txn commit ps all.1,
 )
 
-room_as : (x : Extent) (txn : ℕ) (o : Option (Option Stamp)) (cells : Cells) → Each HasRoom cells → Each HasRoom (settle_as x txn o cells)
+pub room_as : (x : Extent) (txn : ℕ) (o : Option (Option Stamp)) (cells : Cells) → Each HasRoom cells → Each HasRoom (settle_as x txn o cells)
 room_as x txn None cells all = all
 room_as x txn (Some commit) cells all = room_settled x txn commit cells all
 

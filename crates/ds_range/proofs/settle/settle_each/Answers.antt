@@ -1,5 +1,5 @@
 use Rattle.ds_range.proofs.Covering.{among_keys}
-use Rattle.ds_range.proofs.Resolving.{each_settled, each_covered}
+use Rattle.ds_range.proofs.Resolving.{each_settled, each_covered, partly_all}
 use Rattle.ds_range.proofs.settle.settle_each.Goals as goal
 
 pub returns-clause-ok : goal.returns-clause-ok
@@ -10,3 +10,6 @@ returns-clause-covers c = each_covered c.args.txn.0 c.args.commit c.args.keys.no
 
 pub returns-clause-keys : goal.returns-clause-keys
 returns-clause-keys c = among_keys c.args.txn.0 c.args.commit _ c.args.cells.now.entries c.settle_among.new.cells.entries c.settle_among.ensures.some.1
+
+pub returns-clause-partly : goal.returns-clause-partly
+returns-clause-partly c = partly_all c.args.txn.0 c.args.commit _ c.args.cells.now.entries c.settle_among.new.cells.entries c.settle_among.ensures.some.1
