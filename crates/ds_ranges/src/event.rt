@@ -2,6 +2,7 @@
 ghost use Rattle.std.specs.Prelude.{◌≡◌, ◌<◌, ◌≤◌, suc, true, Some, cond, length, vec_len, vec_capacity, OnOk, OnErr};
 ghost use Rattle.std.specs.List.{insert, remove, slice_get, slice_set};
 ghost use Rattle.ds_base.specs.Order.{key_lt};
+ghost use Rattle.ds_kind.specs.Asks.{has_room};
 ghost use Rattle.ds_cell.specs.Change.{after_foreign};
 ghost use Rattle.ds_cell.specs.Store.{put_cell};
 ghost use Rattle.ds_rule.specs.Shifts.{can_join, can_lease, can_move, joined, left_part, right_part, with_lease, with_nodes};
@@ -21,7 +22,8 @@ pub(crate) fn write_at(
     stamp: Stamp,
     value: Option<Value>,
 ) -> Result<(), AllocError>
-    requires { at < length (ranges.old).items }
+    requires within { at < length (ranges.old).items }
+    requires room { has_room key.now ≡ true }
     ensures ok { OnOk result ((r : Range) → slice_get (ranges.old).items at ≡ Some r → (ranges.new).items ≡ slice_set (ranges.old).items at (record r { cells = put_cell key.now (after_foreign (record { stamp = stamp; value = value })) r.cells })) }
     ensures err { OnErr result ((ranges.new).items ≡ (ranges.old).items) }
 {

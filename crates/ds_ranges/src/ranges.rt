@@ -2,6 +2,7 @@
 ghost use Rattle.std.specs.Prelude.{◌≡◌, ◌<◌, ◌-◌, ◌^◌, true, length, find, None, IfOk, OnOk, OnErr};
 ghost use Rattle.std.specs.Option.{option_copied};
 ghost use Rattle.std.specs.List.{list_all};
+ghost use Rattle.ds_kind.specs.Asks.{has_room};
 ghost use Rattle.ds_rule.specs.Begin.{first_world, is_leased, tiles};
 ghost use Rattle.ds_desc.specs.Descs.{back_from, containing};
 ghost use Rattle.ds_rule.specs.Keeping.{Keeps};
@@ -99,8 +100,8 @@ impl Ranges {
         first_rows(alloc, ahead(self.items.as_slice(), key, dir), dir, 9)
     }
 
-    /// A write of another client, at the range that holds the key. Want of memory leaves all as it
-    /// was.
+    /// A write of another client, at the range that holds the key, which must have room for one more byte.
+    /// Want of memory leaves all as it was.
     pub fn write(
         &mut self,
         alloc: Global,
@@ -108,6 +109,7 @@ impl Ranges {
         stamp: Stamp,
         value: Option<Value>,
     ) -> Result<(), AllocError>
+        requires { has_room key.now ≡ true }
         ensures ok { OnOk result (Became (foreign_at key.now (record { stamp = stamp; value = value })) self.old self.new) }
         ensures err { OnErr result (self.new ≡ self.old) }
     {

@@ -1,6 +1,8 @@
 //! Pieces served at their ranges.
-ghost use Rattle.std.specs.Prelude.{◌≡◌, ◌<◌, [], find, length, None, Some, IfOk, OnOk, OnErr};
-ghost use Rattle.std.specs.List.{slice_get, slice_set};
+ghost use Rattle.std.specs.Prelude.{◌≡◌, ◌<◌, [], find, length, true, Some, IfOk, OnOk, OnErr};
+ghost use Rattle.std.specs.List.{list_all, slice_get, slice_set};
+ghost use Rattle.ds_kind.specs.Asks.{has_proper_span};
+ghost use Rattle.ds_kind.specs.Parts.{requests_of};
 ghost use Rattle.ds_range.specs.Keeps.{restored};
 ghost use Rattle.ds_rule.specs.World.{Range, Tiles, has_id};
 ghost use Rattle.ds_serve.specs.Ends.{reopened};
@@ -24,14 +26,14 @@ fn apply_at(
     piece: &Piece,
 ) -> Result<Evaluation, AllocError>
     requires within { at < length (ranges.old).items }
-    requires left { piece.now.head.left ≡ None }
+    requires proper { list_all has_proper_span (requests_of piece.now.items) ≡ true }
     ensures ok { IfOk result (λ e. (r : Range) → slice_get (ranges.old).items at ≡ Some r → ServesPiece piece.now records.old records.new r e) }
     ensures after { OnOk result ((r : Range) → slice_get (ranges.old).items at ≡ Some r → (ranges.new).items ≡ slice_set (ranges.old).items at (record r { cells = after_piece piece.now records.old r })) }
     ensures err { OnErr result ((ranges.new).items ≡ (ranges.old).items) }
     ensures err_records { OnErr result (records.new ≡ records.old) }
 {
     let range = &mut ranges[at];
-    let evaluation = range.apply_by(alloc, records, piece)?;
+    let evaluation = range.apply(alloc, records, piece)?;
     Ok(evaluation)
 }
 
@@ -42,20 +44,20 @@ fn undo_at(ranges: &mut Vec<RangeState>, at: usize, records: &mut Records, undo:
     ensures records { records.new ≡ reopened undo.ended records.old }
 {
     let range = &mut ranges[at];
-    range.undo_by(records, undo);
+    range.undo(records, undo);
 }
 
 impl Ranges {
     /// Serves the piece at the range with its id, by the records, and lets its ends change these; `None`
-    /// where no range has the id. Where the range does not hold all items the piece is not to be served. A
-    /// failure and want of memory leave all as it was.
+    /// where no range has the id. Where the range does not hold all items the piece is not to be served, and
+    /// each request's span must be proper. A failure and want of memory leave all as it was.
     pub fn apply(
         &mut self,
         alloc: Global,
         records: &mut Records,
         piece: &Piece,
     ) -> Result<Option<Evaluation>, AllocError>
-        requires left { piece.now.head.left ≡ None }
+        requires proper { list_all has_proper_span (requests_of piece.now.items) ≡ true }
         requires holds { HoldsItems piece.now (find (has_id piece.now.range) (self.old).ranges) }
         ensures ok { IfOk result (λ o. Applies piece.now records.old records.new self.old self.new o) }
         ensures err { OnErr result (self.new ≡ self.old) }
