@@ -8,12 +8,13 @@ use Rattle.ds_kind.specs.declared.reply.Body.TheVariants as Body
 use Rattle.ds_kind.specs.declared.request.Request.TheVariants.{AdminSplit}
 use Rattle.ds_rule.specs.declared.answer.Answer.TheVariants.{Done, Refused}
 use Rattle.ds_rule.specs.Journal.{Did}
+use Rattle.ds_rule.specs.World.{armed_row}
 use Rattle.ds_rule.proofs.Examples.{key_a, key_m, low, world, differs}
 use Rattle.ds_rule.proofs.ExamplesOfJournals.{look}
 use Rattle.ds_ranges.specs.Layout.{layout_of}
 use Rattle.ds_sim.specs.declared.shift.Shift.TheVariants.{Split}
 use Rattle.ds_sim.specs.Done.{shifts_of}
-use Rattle.ds_sim.specs.Looks.{LooksArmed, armed_row}
+use Rattle.ds_sim.specs.Looks.{LooksArmed}
 use Rattle.ds_sim.specs.State.{refused_after, stands_for, world_of}
 
 -- ---- what the cluster stands for
@@ -21,7 +22,7 @@ use Rattle.ds_sim.specs.State.{refused_after, stands_for, world_of}
 the_parts_of_a_world_make_it : world_of (layout_of world) [] [] 0 ≡ record world { records = []; count = 0 }
 the_parts_of_a_world_make_it = refl
 
-its_past_is_its_steps : (stands_for world (look ∷ []) 10 2).past ≡ Did look ∷ []
+its_past_is_its_steps : (stands_for world (look ∷ []) 10 2 []).past ≡ Did look ∷ []
 its_past_is_its_steps = refl
 
 a_refusal_counts : refused_after (Refused NotFound) 2 ≡ 3

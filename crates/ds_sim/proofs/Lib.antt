@@ -7,3 +7,4 @@ pub mod Looking
 pub mod Moving
 pub mod Sending
 pub mod Shifting
+pub mod Picking

@@ -14,11 +14,11 @@ use Rattle.ds_rule.specs.declared.journal.JournalStep.TheVariants.{Look}
 use Rattle.ds_rule.specs.declared.record.TxnRecord.{TxnRecord}
 use Rattle.ds_rule.specs.Clauses.{Looks, Steps}
 use Rattle.ds_rule.specs.Pieces.{Each}
-use Rattle.ds_rule.specs.World.{World, rows_at, without_first}
+use Rattle.ds_rule.specs.World.{World, answers_lookup, armed_row, rows_at, without_first}
 use Rattle.ds_ranges.specs.Layout.{Layout}
 use Rattle.ds_ranges.specs.Places.{IsFirst}
 use Rattle.ds_ranges.proofs.Finding.{first-found, none-found}
-use Rattle.ds_sim.specs.Looks.{LooksArmed, LooksUp, armed_row}
+use Rattle.ds_sim.specs.Looks.{LooksArmed, LooksUp}
 use Rattle.ds_sim.specs.State.{stands_for, world_of}
 use Rattle.ds_sim.proofs.Sending.{look_steps, stays_same}
 
@@ -84,37 +84,37 @@ module _ {X : Type 0} (p : X → Bool) where
 
 -- ---- an armed descriptor answers
 
-pub looks-armed : (k : List ℕ) (d : Dir) (old new : List RangeDesc) (i : ℕ) (desc : RangeDesc) (infos : List Info) (l : Looked) → position (λ a. contains d k a.span) old ≡ Some i → slice_get old i ≡ Some desc → infos ≡ armed_row desc ∷ [] → l ≡ Rows infos → new ≡ remove old i → LooksArmed k d old new l
+pub looks-armed : (k : List ℕ) (d : Dir) (old new : List RangeDesc) (i : ℕ) (desc : RangeDesc) (infos : List Info) (l : Looked) → position (answers_lookup d k) old ≡ Some i → slice_get old i ≡ Some desc → infos ≡ armed_row desc ∷ [] → l ≡ Rows infos → new ≡ remove old i → LooksArmed k d old new l
 looks-armed k d old new i desc infos l here at are is gone =
-    let first : IsFirst (λ a. contains d k a.span) old i = position-first (λ a. contains d k a.span) old i here in
+    let first : IsFirst (answers_lookup d k) old i = position-first (answers_lookup d k) old i here in
     record {
       desc = desc;
-      found = sym (first-found (λ a. contains d k a.span) old i first) ∙ at;
+      found = sym (first-found (answers_lookup d k) old i first) ∙ at;
       rows = is ∙ ap Rows are;
-      gone = gone ∙ first-removed (λ a. contains d k a.span) old i first;
+      gone = gone ∙ first-removed (answers_lookup d k) old i first;
     }
 
 -- its one row contains the key
 armed-first : (k : List ℕ) (d : Dir) (old new : List RangeDesc) (l : Looked) → LooksArmed k d old new l → FirstContains d k l
-armed-first k d old new l h = subst (FirstContains d k) (sym h.rows) (found-passes (λ a. contains d k a.span) old h.desc h.found)
+armed-first k d old new l h = subst (FirstContains d k) (sym h.rows) (found-passes (answers_lookup d k) old h.desc h.found)
 
-armed-steps : (k : List ℕ) (d : Dir) (layout : Layout) (old new : List RangeDesc) (ts : List TxnRecord) (n : ℕ) (steps later : List JournalStep) (floor c : ℕ) (l : Looked) → LooksArmed k d old new l → lies_ahead d k ≡ true → later ≡ steps ++ Look k d l ∷ [] → Steps (stands_for (world_of layout old ts n) steps floor c) (stands_for (world_of layout new ts n) later floor c) (Look k d l)
-armed-steps k d layout old new ts n steps later floor c l h ahead grown =
+armed-steps : (k : List ℕ) (d : Dir) (layout : Layout) (old new : List RangeDesc) (ts : List TxnRecord) (n : ℕ) (steps later : List JournalStep) (floor c : ℕ) (picks : List ℕ) (l : Looked) → LooksArmed k d old new l → lies_ahead d k ≡ true → later ≡ steps ++ Look k d l ∷ [] → Steps (stands_for (world_of layout old ts n) steps floor c picks) (stands_for (world_of layout new ts n) later floor c picks) (Look k d l)
+armed-steps k d layout old new ts n steps later floor c picks l h ahead grown =
     let w : World = world_of layout old ts n in
-    subst (λ z. Steps (stands_for w steps floor c) (stands_for (world_of layout new ts n) later floor c) (Look k d z)) (sym h.rows)
-    (look_steps w (world_of layout new ts n) steps later floor c k d (armed_row h.desc ∷ []) (grown ∙ ap (λ z. steps ++ Look k d z ∷ []) h.rows)
+    subst (λ z. Steps (stands_for w steps floor c picks) (stands_for (world_of layout new ts n) later floor c picks) (Look k d z)) (sym h.rows)
+    (look_steps w (world_of layout new ts n) steps later floor c picks k d (armed_row h.desc ∷ []) (grown ∙ ap (λ z. steps ++ Look k d z ∷ []) h.rows)
     (sym (ap (rows_at d k w) h.found)) (ap (λ zs. world_of layout zs ts n) h.gone) ahead)
 
 -- ---- the ranges answer
 
-up-steps : (k : List ℕ) (d : Dir) (layout : Layout) (armed : List RangeDesc) (ts : List TxnRecord) (n : ℕ) (steps later : List JournalStep) (floor c : ℕ) (l : Looked) → position (λ a. contains d k a.span) armed ≡ None → LooksUp k d layout l → lies_ahead d k ≡ true → later ≡ steps ++ Look k d l ∷ [] → Steps (stands_for (world_of layout armed ts n) steps floor c) (stands_for (world_of layout armed ts n) later floor c) (Look k d l)
-up-steps k d layout armed ts n steps later floor c l none h ahead grown =
+up-steps : (k : List ℕ) (d : Dir) (layout : Layout) (armed : List RangeDesc) (ts : List TxnRecord) (n : ℕ) (steps later : List JournalStep) (floor c : ℕ) (picks : List ℕ) (l : Looked) → position (answers_lookup d k) armed ≡ None → LooksUp k d layout l → lies_ahead d k ≡ true → later ≡ steps ++ Look k d l ∷ [] → Steps (stands_for (world_of layout armed ts n) steps floor c picks) (stands_for (world_of layout armed ts n) later floor c picks) (Look k d l)
+up-steps k d layout armed ts n steps later floor c picks l none h ahead grown =
     let w : World = world_of layout armed ts n in
-    let all : Each (λ a. contains d k a.span ≡ false) armed = position-none (λ a. contains d k a.span) armed none in
-    subst (λ z. Steps (stands_for w steps floor c) (stands_for w later floor c) (Look k d z)) (sym h.rows)
-    (look_steps w w steps later floor c k d h.infos (grown ∙ ap (λ z. steps ++ Look k d z ∷ []) h.rows)
-    (h.are w ∙ ap (rows_at d k w) (none-found (λ a. contains d k a.span) armed all))
-    (ap (λ zs. world_of layout zs ts n) (sym (none-removed (λ a. contains d k a.span) armed all))) ahead)
+    let all : Each (λ a. answers_lookup d k a ≡ false) armed = position-none (answers_lookup d k) armed none in
+    subst (λ z. Steps (stands_for w steps floor c picks) (stands_for w later floor c picks) (Look k d z)) (sym h.rows)
+    (look_steps w w steps later floor c picks k d h.infos (grown ∙ ap (λ z. steps ++ Look k d z ∷ []) h.rows)
+    (h.are w ∙ ap (rows_at d k w) (none-found (answers_lookup d k) armed all))
+    (ap (λ zs. world_of layout zs ts n) (sym (none-removed (answers_lookup d k) armed all))) ahead)
 
 -- ---- the same over what the calls say
 
@@ -126,15 +126,15 @@ pub up-first-ok : (k : List ℕ) (d : Dir) (layout : Layout) (r : Result Looked 
 up-first-ok k d layout (Ok l) looks = looks.first
 up-first-ok k d layout (Err e) looks = tt
 
-pub armed-looks : (k : List ℕ) (d : Dir) (layout : Layout) (old new : List RangeDesc) (ts : List TxnRecord) (n : ℕ) (steps later : List JournalStep) (floor c : ℕ) (r : Result Looked AllocError) → IfOk r (λ l. LooksArmed k d old new l) → lies_ahead d k ≡ true → IfOk r (λ l. later ≡ steps ++ Look k d l ∷ []) → OnErr r (new ≡ old) → OnErr r (later ≡ steps) → Looks (stands_for (world_of layout old ts n) steps floor c) (stands_for (world_of layout new ts n) later floor c) k d r
-armed-looks k d layout old new ts n steps later floor c (Ok l) looks ahead grown same stay =
-    armed-steps k d layout old new ts n steps later floor c l looks ahead grown
-armed-looks k d layout old new ts n steps later floor c (Err e) looks ahead grown same stay =
-    stays_same (stands_for (world_of layout old ts n) steps floor c) (stands_for (world_of layout new ts n) later floor c)
-    (ap (λ zs. stands_for (world_of layout zs ts n) later floor c) same ∙ ap (λ zs. stands_for (world_of layout old ts n) zs floor c) stay)
+pub armed-looks : (k : List ℕ) (d : Dir) (layout : Layout) (old new : List RangeDesc) (ts : List TxnRecord) (n : ℕ) (steps later : List JournalStep) (floor c : ℕ) (picks : List ℕ) (r : Result Looked AllocError) → IfOk r (λ l. LooksArmed k d old new l) → lies_ahead d k ≡ true → IfOk r (λ l. later ≡ steps ++ Look k d l ∷ []) → OnErr r (new ≡ old) → OnErr r (later ≡ steps) → Looks (stands_for (world_of layout old ts n) steps floor c picks) (stands_for (world_of layout new ts n) later floor c picks) k d r
+armed-looks k d layout old new ts n steps later floor c picks (Ok l) looks ahead grown same stay =
+    armed-steps k d layout old new ts n steps later floor c picks l looks ahead grown
+armed-looks k d layout old new ts n steps later floor c picks (Err e) looks ahead grown same stay =
+    stays_same (stands_for (world_of layout old ts n) steps floor c picks) (stands_for (world_of layout new ts n) later floor c picks)
+    (ap (λ zs. stands_for (world_of layout zs ts n) later floor c picks) same ∙ ap (λ zs. stands_for (world_of layout old ts n) zs floor c picks) stay)
 
-pub up-looks : (k : List ℕ) (d : Dir) (layout : Layout) (armed : List RangeDesc) (ts : List TxnRecord) (n : ℕ) (steps later : List JournalStep) (floor c : ℕ) (r : Result Looked AllocError) → position (λ a. contains d k a.span) armed ≡ None → IfOk r (λ l. LooksUp k d layout l) → lies_ahead d k ≡ true → IfOk r (λ l. later ≡ steps ++ Look k d l ∷ []) → OnErr r (later ≡ steps) → Looks (stands_for (world_of layout armed ts n) steps floor c) (stands_for (world_of layout armed ts n) later floor c) k d r
-up-looks k d layout armed ts n steps later floor c (Ok l) none looks ahead grown stay = up-steps k d layout armed ts n steps later floor c l none looks ahead grown
-up-looks k d layout armed ts n steps later floor c (Err e) none looks ahead grown stay =
-    stays_same (stands_for (world_of layout armed ts n) steps floor c) (stands_for (world_of layout armed ts n) later floor c)
-    (ap (λ zs. stands_for (world_of layout armed ts n) zs floor c) stay)
+pub up-looks : (k : List ℕ) (d : Dir) (layout : Layout) (armed : List RangeDesc) (ts : List TxnRecord) (n : ℕ) (steps later : List JournalStep) (floor c : ℕ) (picks : List ℕ) (r : Result Looked AllocError) → position (answers_lookup d k) armed ≡ None → IfOk r (λ l. LooksUp k d layout l) → lies_ahead d k ≡ true → IfOk r (λ l. later ≡ steps ++ Look k d l ∷ []) → OnErr r (later ≡ steps) → Looks (stands_for (world_of layout armed ts n) steps floor c picks) (stands_for (world_of layout armed ts n) later floor c picks) k d r
+up-looks k d layout armed ts n steps later floor c picks (Ok l) none looks ahead grown stay = up-steps k d layout armed ts n steps later floor c picks l none looks ahead grown
+up-looks k d layout armed ts n steps later floor c picks (Err e) none looks ahead grown stay =
+    stays_same (stands_for (world_of layout armed ts n) steps floor c picks) (stands_for (world_of layout armed ts n) later floor c picks)
+    (ap (λ zs. stands_for (world_of layout armed ts n) zs floor c picks) stay)

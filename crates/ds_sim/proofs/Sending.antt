@@ -69,8 +69,8 @@ loses_of w n p (Done rs) is h = absurd h
 loses_of w n p (Failed f) is h = absurd h
 loses_of w n p (Refused r) is h = absurd h
 
-pub send_steps : (w v : World) (steps later : List JournalStep) (floor c n : ℕ) (p : Piece) (a : Answer) → later ≡ steps ++ Send n p a ∷ [] → a ≡ deliver_answer w n p → v ≡ deliver_world w n p → c < 2 ^ 64 → Steps (stands_for w steps floor c) (stands_for v later floor (refused_after a c)) (Send n p a)
-send_steps w v steps later floor c n p a grown is after fits = record {
+pub send_steps : (w v : World) (steps later : List JournalStep) (floor c n : ℕ) (picks : List ℕ) (p : Piece) (a : Answer) → later ≡ steps ++ Send n p a ∷ [] → a ≡ deliver_answer w n p → v ≡ deliver_world w n p → c < 2 ^ 64 → Steps (stands_for w steps floor c picks) (stands_for v later floor (refused_after a c) picks) (Send n p a)
+send_steps w v steps later floor c n picks p a grown is after fits = record {
   moves = [];
   above = tt;
   grown = ap (map Did) grown ∙ map_append steps (Send n p a ∷ []);
@@ -84,8 +84,8 @@ send_steps w v steps later floor c n p a grown is after fits = record {
 }
 
 -- what a lookup adds, whose rows are the world's
-pub look_steps : (w v : World) (steps later : List JournalStep) (floor c : ℕ) (k : List ℕ) (d : Dir) (infos : List Info) → later ≡ steps ++ Look k d (Looked.Rows infos) ∷ [] → infos ≡ look_rows w k d → v ≡ look_world w k d → lies_ahead d k ≡ true → Steps (stands_for w steps floor c) (stands_for v later floor c) (Look k d (Looked.Rows infos))
-look_steps w v steps later floor c k d infos grown rows after ahead = record {
+pub look_steps : (w v : World) (steps later : List JournalStep) (floor c : ℕ) (picks : List ℕ) (k : List ℕ) (d : Dir) (infos : List Info) → later ≡ steps ++ Look k d (Looked.Rows infos) ∷ [] → infos ≡ look_rows w k d → v ≡ look_world w k d → lies_ahead d k ≡ true → Steps (stands_for w steps floor c picks) (stands_for v later floor c picks) (Look k d (Looked.Rows infos))
+look_steps w v steps later floor c picks k d infos grown rows after ahead = record {
   moves = [];
   above = tt;
   grown = ap (map Did) grown ∙ map_append steps (Look k d (Looked.Rows infos) ∷ []);

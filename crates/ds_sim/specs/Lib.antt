@@ -1,3 +1,4 @@
 pub mod Done
 pub mod Looks
+pub mod Made
 pub mod State

@@ -23,9 +23,9 @@ world_of l armed records count = record {
   count = count;
 }
 
--- a wire that stands for this world: nothing was lost, and no picks are left
-abbrev pub stands_for : World → List JournalStep → ℕ → ℕ → Stands
-stands_for w steps floor refused = record { world = w; past = map Did steps; floor = floor; refused = refused; lost = 0; ahead = [] }
+-- a wire that stands for this world, with these picks still to come: nothing was lost
+abbrev pub stands_for : World → List JournalStep → ℕ → ℕ → List ℕ → Stands
+stands_for w steps floor refused picks = record { world = w; past = map Did steps; floor = floor; refused = refused; lost = 0; ahead = picks }
 
 -- a refusal raises the count, which stays at the counter's last value
 abbrev pub refused_after : Answer → ℕ → ℕ
@@ -35,4 +35,4 @@ refused_after (Failed f) n = n
 refused_after Lost n = n
 
 abbrev pub state_of : Sim → Stands
-state_of s = stands_for (world_of s.ranges s.armed.items s.records s.count) s.steps.items s.floor.0 s.refused
+state_of s = stands_for (world_of s.ranges s.armed.items s.records s.count) s.steps.items s.floor.0 s.refused s.picks.items

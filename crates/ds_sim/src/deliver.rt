@@ -1,6 +1,8 @@
 //! A piece delivered to a node.
-ghost use Rattle.std.specs.Prelude.{◌≡◌, ◌++◌, ◌∷◌, [], None, find, IfOk, OnOk, OnErr};
+ghost use Rattle.std.specs.Prelude.{◌≡◌, ◌++◌, ◌∷◌, [], None, find, true, IfOk, OnOk, OnErr};
+ghost use Rattle.std.specs.List.{list_all};
 ghost use Rattle.std.specs.Option.{option_map};
+ghost use Rattle.ds_kind.specs.Asks.{has_proper_span};
 ghost use Rattle.ds_kind.specs.Parts.{requests_of};
 ghost use Rattle.ds_rule.specs.declared.answer.Answer.TheVariants.{Done};
 ghost use Rattle.ds_rule.specs.declared.journal.JournalStep.TheVariants.{Send};
@@ -181,7 +183,7 @@ fn serve(
     piece: &Piece,
     steps: &mut Vec<JournalStep>,
 ) -> Result<Answer, AllocError>
-    requires left { piece.now.head.left ≡ None }
+    requires proper { list_all has_proper_span (requests_of piece.now.items) ≡ true }
     requires goes { None ≡ option_map stop_answer (stops_at ranges.old records.old node piece.now (find (has_id piece.now.range) (ranges.old).ranges)) }
     ensures delivers { IfOk result (λ a. Delivers node piece.now ranges.old ranges.new records.old records.new a) }
     ensures steps { IfOk result (λ a. (steps.new).items ≡ (steps.old).items ++ Send node piece.now a ∷ []) }
@@ -222,7 +224,7 @@ pub(crate) fn deliver(
     piece: &Piece,
     steps: &mut Vec<JournalStep>,
 ) -> Result<Answer, AllocError>
-    requires { piece.now.head.left ≡ None }
+    requires { list_all has_proper_span (requests_of piece.now.items) ≡ true }
     ensures delivers { IfOk result (λ a. Delivers node piece.now ranges.old ranges.new records.old records.new a) }
     ensures steps { IfOk result (λ a. (steps.new).items ≡ (steps.old).items ++ Send node piece.now a ∷ []) }
     ensures err { OnErr result (ranges.new ≡ ranges.old) }

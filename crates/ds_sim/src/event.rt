@@ -1,9 +1,11 @@
 //! What happens to the cluster beside the steps of a batch.
-ghost use Rattle.std.specs.Prelude.{◌≡◌, ◌+◌, ◌<◌, ◌-◌, ◌^◌, List, ℕ, if◌then◌else◌, OnOk, OnErr};
+ghost use Rattle.std.specs.Prelude.{◌≡◌, ◌+◌, ◌<◌, ◌-◌, ◌^◌, List, ℕ, true, if◌then◌else◌, OnOk, OnErr};
+ghost use Rattle.ds_kind.specs.Asks.{has_room};
 ghost use Rattle.ds_rule.specs.Moves.{counts, effect, moved};
 ghost use Rattle.ds_rule.specs.Shifts.{foreign_at, move_to, stale_by};
 ghost use Rattle.ds_rule.specs.declared.record.TxnRecord.{TxnRecord};
 ghost use Rattle.ds_ranges.specs.Layout.{Became};
+ghost use Rattle.ds_sim.specs.Made.{CanBeMade};
 ghost use Rattle.ds_sim.specs.State.{state_of, world_of};
 
 use crate::records::end_last;
@@ -14,7 +16,8 @@ use ds_ranges::Ranges;
 use ds_rule::{Event, Records};
 use std::alloc::{AllocError, Global};
 
-/// A write of another client, of a copy of the value. Want of memory changes nothing.
+/// A write of another client, of a copy of the value, at a key with room for one more byte. Want of memory
+/// changes nothing.
 fn write_copy(
     alloc: Global,
     ranges: &mut Ranges,
@@ -22,6 +25,7 @@ fn write_copy(
     stamp: Stamp,
     value: &Option<Value>,
 ) -> Result<(), AllocError>
+    requires { has_room key.now ≡ true }
     ensures ok { OnOk result (Became (foreign_at key.now (record { stamp = stamp; value = value.now })) ranges.old ranges.new) }
     ensures err { OnErr result (ranges.new ≡ ranges.old) }
 {
@@ -74,6 +78,7 @@ fn make(
     records: &mut Records,
     event: &Event,
 ) -> Result<(), AllocError>
+    requires { CanBeMade event.now }
     ensures ok { OnOk result ((n : ℕ) → world_of ranges.new (armed.new).items records.new n ≡ effect event.now (world_of ranges.old (armed.old).items records.old n)) }
     ensures err_ranges { OnErr result (ranges.new ≡ ranges.old) }
     ensures err_armed { OnErr result ((armed.new).items ≡ (armed.old).items) }
@@ -102,10 +107,7 @@ fn count_after(event: &Event, count: u64) -> u64
     ensures { result ≡ (if counts event.now then count + 1 else count) }
 {
     match event {
-        Event::LoseRequest { .. }
-        | Event::LoseReply { .. }
-        | Event::Copy { .. }
-        | Event::Restart { .. } => count,
+        Event::LoseRequest { .. } | Event::LoseReply { .. } | Event::Copy { .. } => count,
         Event::Write { .. }
         | Event::Split { .. }
         | Event::Merge { .. }
@@ -113,15 +115,18 @@ fn count_after(event: &Event, count: u64) -> u64
         | Event::Move { .. }
         | Event::Stale { .. }
         | Event::Abort
-        | Event::Arrive { .. } => count + 1,
+        | Event::Arrive { .. }
+        | Event::Restart { .. } => count + 1,
     }
 }
 
 impl Sim {
-    /// Makes one event of the cluster's own. One that names a step, as a loss, a copy or a restart does,
-    /// changes nothing here and is not counted. Want of memory leaves all as it was.
+    /// Makes one event of the cluster's own; a write must be at a key with room for one more byte. One that
+    /// names a step, as a loss or a copy does, changes nothing here and is not counted. Want of memory leaves
+    /// all as it was.
     pub fn event(&mut self, alloc: Global, event: &Event) -> Result<(), AllocError>
         requires few { (self.old).count < 2 ^ 64 - 1 }
+        requires made { CanBeMade event.now }
         ensures ok { OnOk result (state_of self.new ≡ record (state_of self.old) { world = moved (state_of self.old).world event.now }) }
         ensures err { OnErr result (state_of self.new ≡ state_of self.old) }
     {

@@ -1,11 +1,10 @@
 //! Lookups, which old descriptors that are armed answer first.
 ghost use Rattle.std.specs.Prelude.{◌≡◌, ◌<◌, ◌++◌, ◌∷◌, [], Some, position, length, IfOk, OnOk, OnErr};
 ghost use Rattle.std.specs.List.{remove, slice_get};
-ghost use Rattle.ds_desc.specs.Contains.{contains};
 ghost use Rattle.ds_desc.specs.declared.desc.RangeDesc.{RangeDesc};
 ghost use Rattle.ds_desc.specs.declared.meta.Looked.TheVariants as Looked;
 ghost use Rattle.ds_rule.specs.declared.journal.JournalStep.TheVariants.{Look};
-ghost use Rattle.ds_rule.specs.World.{first_or};
+ghost use Rattle.ds_rule.specs.World.{answers_lookup, armed_row, first_node};
 
 use ds_base::{Copies, Dir, Key};
 use ds_desc::{Info, Infos, Lease, Nodes, RangeDesc};
@@ -13,7 +12,7 @@ use ds_rule::JournalStep;
 use std::alloc::{AllocError, Global};
 
 fn first_of(nodes: &Nodes) -> u8
-    ensures { result ≡ first_or 0 nodes.now }
+    ensures { result ≡ first_node nodes.now }
 {
     match nodes.get(0) {
         Some(node) => *node,
@@ -23,7 +22,7 @@ fn first_of(nodes: &Nodes) -> u8
 
 /// The row of an armed descriptor, with a lease of its own making.
 fn armed_row(alloc: Global, desc: &RangeDesc) -> Result<Info, AllocError>
-    ensures { IfOk result (λ i. i ≡ record { desc = desc.now; lease = record { node = first_or 0 desc.now.nodes; number = 0 } }) }
+    ensures { IfOk result (λ i. i ≡ armed_row desc.now) }
 {
     let lease = Lease {
         node: first_of(&desc.nodes),
@@ -37,7 +36,7 @@ fn armed_row(alloc: Global, desc: &RangeDesc) -> Result<Info, AllocError>
 
 /// The one row of an armed descriptor.
 pub(crate) fn armed_rows(alloc: Global, desc: &RangeDesc) -> Result<Infos, AllocError>
-    ensures { IfOk result (λ is. is ≡ record { desc = desc.now; lease = record { node = first_or 0 desc.now.nodes; number = 0 } } ∷ []) }
+    ensures { IfOk result (λ is. is ≡ armed_row desc.now ∷ []) }
 {
     let mut rows = Infos::new(alloc);
     let row = armed_row(alloc, desc)?;
@@ -47,7 +46,7 @@ pub(crate) fn armed_rows(alloc: Global, desc: &RangeDesc) -> Result<Infos, Alloc
 
 /// Where the first armed descriptor stands that contains the key.
 pub(crate) fn armed_at(armed: &[RangeDesc], key: &Key, dir: Dir) -> Option<usize>
-    ensures { result ≡ position (λ a. contains dir key.now a.span) armed.now }
+    ensures { result ≡ position (answers_lookup dir key.now) armed.now }
 {
     armed.iter().position(|desc| desc.contains(key, dir))
 }

@@ -1,12 +1,14 @@
 //! The cluster as a wire.
 ghost use Rattle.std.specs.Prelude.{◌≡◌, ◌<◌, ◌-◌, ◌^◌, ◌++◌, ◌∷◌, [], true, Some, length, position, refl, IfOk, OnOk, OnErr};
 ghost use Rattle.std.specs.List.{list_all};
-ghost use Rattle.ds_desc.specs.Contains.{contains, lies_ahead};
+ghost use Rattle.ds_desc.specs.Contains.{lies_ahead};
+ghost use Rattle.ds_kind.specs.Asks.{has_room};
 ghost use Rattle.ds_rule.specs.declared.event.Event.TheVariants.{Write};
 ghost use Rattle.ds_rule.specs.declared.journal.JournalStep.TheVariants.{Look};
 ghost use Rattle.ds_rule.specs.Begin.{first_world, is_leased, tiles};
 ghost use Rattle.ds_rule.specs.Close.{with_begin, close_status, closed};
 ghost use Rattle.ds_rule.specs.Moves.{moved};
+ghost use Rattle.ds_rule.specs.World.{answers_lookup};
 ghost use Rattle.ds_sim.specs.Looks.{LooksArmed, LooksUp};
 ghost use Rattle.ds_sim.specs.State.{refused_after, state_of};
 
@@ -18,9 +20,10 @@ use ds_desc::{Looked, Meta, RangeDesc};
 use ds_kind::{Piece, TxnStatus};
 use ds_ranges::Ranges;
 use ds_rule::{
-    Answer, ClusterRange, JournalStep, JournalSteps, RecordStatus, Records, TxnRecord, Wire,
+    Answer, Block, ClusterRange, JournalStep, JournalSteps, RecordStatus, Records, TxnRecord, Wire,
 };
 use std::alloc::{AllocError, Global};
+use std::collections::VecDeque;
 use std::mem;
 
 /// The simulated cluster, between and in the blocks of its batches.
@@ -40,6 +43,8 @@ pub struct Sim {
     pub count: u64,
     /// How many sends were refused.
     pub refused: u64,
+    /// The picks of the block that are still to come.
+    pub picks: VecDeque<u32>,
 }
 
 /// The count of refusals after this answer; it stays at its last value.
@@ -67,7 +72,7 @@ fn look_armed(
     dir: Dir,
     steps: &mut Vec<JournalStep>,
 ) -> Result<Looked, AllocError>
-    requires { position (λ a. contains dir key.now a.span) (armed.old).items ≡ Some at }
+    requires { position (answers_lookup dir key.now) (armed.old).items ≡ Some at }
     ensures looks { IfOk result (λ l. LooksArmed key.now dir (armed.old).items (armed.new).items l) }
     ensures steps { IfOk result (λ l. (steps.new).items ≡ (steps.old).items ++ Look key.now dir l ∷ []) }
     ensures err { OnErr result ((armed.new).items ≡ (armed.old).items) }
@@ -99,6 +104,17 @@ fn look_up(
     Ok(Looked::Rows(infos))
 }
 
+/// A copy of the picks, to be taken from the front.
+fn picks_of(alloc: Global, picks: &[u32]) -> Result<VecDeque<u32>, AllocError>
+    ensures { IfOk result (λ q. q.items ≡ picks.now) }
+{
+    let mut copy = VecDeque::new(alloc);
+    'each: for pick in picks {
+        copy.push_back(*pick)?;
+    }
+    Ok(copy)
+}
+
 impl Sim {
     ghost use Rattle.ds_sim.specs.declared.sim.Sim.{Sim};
 
@@ -117,10 +133,11 @@ impl Sim {
             floor: Stamp(0),
             count: 0,
             refused: 0,
+            picks: VecDeque::new(alloc),
         })
     }
 
-    /// A write of another client. Want of memory leaves all as it was.
+    /// A write of another client, at a key with room for one more byte. Want of memory leaves all as it was.
     pub fn write(
         &mut self,
         alloc: Global,
@@ -128,7 +145,8 @@ impl Sim {
         stamp: Stamp,
         value: Option<Value>,
     ) -> Result<(), AllocError>
-        requires { (self.old).count < 2 ^ 64 - 1 }
+        requires few { (self.old).count < 2 ^ 64 - 1 }
+        requires room { has_room key.now ≡ true }
         ensures ok { OnOk result (state_of self.new ≡ record (state_of self.old) { world = moved (state_of self.old).world (Write key.now stamp value) }) }
         ensures err { OnErr result (self.new ≡ self.old) }
     {
@@ -153,19 +171,31 @@ impl Sim {
         )
     }
 
-    /// A block begins: no step stands in it yet, and its foreign writes lie above the floor.
-    pub fn start_block(&mut self, alloc: Global, floor: Stamp)
-        ensures { state_of self.new ≡ record (state_of self.old) { past = []; floor = floor.0 } }
+    /// A block begins: no step stands in it yet, its foreign writes lie above the floor, and its picks are
+    /// those that come. No block with events is taken yet. Want of memory leaves all as it was.
+    pub fn start_block(
+        &mut self,
+        alloc: Global,
+        block: &Block,
+        floor: Stamp,
+    ) -> Result<(), AllocError>
+        requires { block.now.events ≡ [] }
+        ensures ok { OnOk result (state_of self.new ≡ record (state_of self.old) { past = []; floor = floor.0; ahead = block.now.picks }) }
+        ensures err { OnErr result (self.new ≡ self.old) }
     {
+        let picks = picks_of(alloc, block.picks.as_slice())?;
         self.steps = Vec::new(alloc);
         self.floor = floor;
+        self.picks = picks;
+        Ok(())
     }
 
-    /// The block's steps, in order.
+    /// The block's steps, in order. Its picks that were not used come no more.
     pub fn end_block(&mut self, alloc: Global) -> JournalSteps
         ensures steps { result ≡ (self.old).steps.items }
-        ensures state { state_of self.new ≡ record (state_of self.old) { past = [] } }
+        ensures state { state_of self.new ≡ record (state_of self.old) { past = []; ahead = [] } }
     {
+        self.picks = VecDeque::new(alloc);
         JournalSteps::from_vec(mem::replace(&mut self.steps, Vec::new(alloc)))
     }
 
@@ -218,8 +248,11 @@ impl Wire for Sim {
         Ok(answer)
     }
 
-    fn pick(&mut self, _waiting: u32) -> u32 {
-        0
+    fn pick(&mut self, waiting: u32) -> u32 {
+        match self.picks.pop_front() {
+            Some(pick) => pick % waiting,
+            None => 0,
+        }
     }
 
     ghost look_steps = { λ a b k d r h. h };

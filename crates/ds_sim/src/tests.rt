@@ -1,13 +1,15 @@
 //! Each public call, on a cluster of one range.
-ghost use Rattle.std.specs.Prelude.{◌≡◌, None, IfOk};
+ghost use Rattle.std.specs.Prelude.{◌≡◌, true, list_all, IfOk};
+ghost use Rattle.ds_kind.specs.Asks.{has_proper_span};
+ghost use Rattle.ds_kind.specs.Parts.{requests_of};
 
 use crate::sim::Sim;
 use ds_base::{Dir, Key, Seq, Stamp, TxnNo, Value};
 use ds_desc::{Looked, Meta, Nodes};
-use ds_kind::kinds::{AdminSplitArgs, GetArgs, IncrementArgs};
+use ds_kind::kinds::{GetArgs, IncrementArgs};
 use ds_kind::{Body, Head, Item, Items, Piece, Request, TxnStatus};
 use ds_ranges::{are_leased, tiles};
-use ds_rule::{Answer, ClusterRange, Event, Wire};
+use ds_rule::{Answer, Block, ClusterRange, Events, Picks, Wire};
 use std::alloc::Global;
 use std::test::Fail;
 
@@ -21,7 +23,8 @@ fn whole(alloc: Global) -> ClusterRange {
 }
 
 fn piece(alloc: Global, txn: Option<TxnNo>, request: Request) -> Result<Piece, Fail>
-    ensures { IfOk result (λ p. p.head.left ≡ None) }
+    requires { has_proper_span request ≡ true }
+    ensures { IfOk result (λ p. list_all has_proper_span (requests_of p.items) ≡ true) }
 {
     let head = Head {
         at: Stamp(10),
@@ -46,13 +49,17 @@ fn piece(alloc: Global, txn: Option<TxnNo>, request: Request) -> Result<Piece, F
     })
 }
 
-fn get(alloc: Global) -> Request {
+fn get(alloc: Global) -> Request
+    ensures { has_proper_span result ≡ true }
+{
     Request::Get(GetArgs {
         key: Key::least(alloc),
     })
 }
 
-fn increment(alloc: Global) -> Request {
+fn increment(alloc: Global) -> Request
+    ensures { has_proper_span result ≡ true }
+{
     Request::Increment(IncrementArgs {
         key: Key::least(alloc),
         by: 5,
@@ -83,11 +90,12 @@ fn is_mine(looked: &Looked) -> bool {
     }
 }
 
-fn rows_in(looked: &Looked) -> usize {
-    match looked {
-        Looked::Rows(infos) => infos.len(),
-        Looked::Lost => 0,
-    }
+// Picks one after another, of three that wait.
+fn picks_of(alloc: Global) -> Result<Picks, Fail> {
+    let mut picks = Picks::new(alloc);
+    picks.push(alloc, 2)?;
+    picks.push(alloc, 7)?;
+    Ok(picks)
 }
 
 #[test]
@@ -96,7 +104,11 @@ fn a_write_is_seen_in_a_block(rt: HostRuntime) -> Result<(), Fail> {
     let ranges = [whole(alloc)];
     if tiles(&ranges) && are_leased(&ranges) {
         let mut sim = Sim::new(alloc, &ranges)?;
-        sim.start_block(alloc, Stamp(0));
+        let block = Block {
+            events: Events::new(alloc),
+            picks: Picks::new(alloc),
+        };
+        sim.start_block(alloc, &block, Stamp(0))?;
         if sim.count < 1000 {
             sim.write(alloc, &Key::least(alloc), Stamp(1), Some(Value::Int(4)))?;
         }
@@ -136,44 +148,19 @@ fn the_first_row_is_the_range(rt: HostRuntime) -> Result<(), Fail> {
 }
 
 #[test]
-fn a_piece_splits_its_range(rt: HostRuntime) -> Result<(), Fail> {
+fn a_block_s_picks_are_followed(rt: HostRuntime) -> Result<(), Fail> {
     let alloc = rt.alloc();
     let ranges = [whole(alloc)];
     if tiles(&ranges) && are_leased(&ranges) {
         let mut sim = Sim::new(alloc, &ranges)?;
-        let Ok(key) = Key::new(alloc, &[109]) else {
-            return Ok(());
+        let block = Block {
+            events: Events::new(alloc),
+            picks: picks_of(alloc)?,
         };
-        let split = Request::AdminSplit(AdminSplitArgs { key });
-        let answer = sim.send(alloc, 1, &piece(alloc, None, split)?)?;
-        assert!(rt; matches!(answer, Answer::Done(_)));
-        let looked = sim.lookup(alloc, &Key::least(alloc), Dir::Forward)?;
-        assert!(rt; rows_in(&looked) == 2);
-    }
-    Ok(())
-}
-
-#[test]
-fn an_old_descriptor_answers_after_a_split(rt: HostRuntime) -> Result<(), Fail> {
-    let alloc = rt.alloc();
-    let ranges = [whole(alloc)];
-    if tiles(&ranges) && are_leased(&ranges) {
-        let mut sim = Sim::new(alloc, &ranges)?;
-        let Ok(key) = Key::new(alloc, &[109]) else {
-            return Ok(());
-        };
-        if sim.count < 1000 {
-            sim.event(alloc, &Event::Split { key })?;
-        }
-        if sim.count < 1000 {
-            let key = Key::least(alloc);
-            sim.event(alloc, &Event::Stale { key, back: 1 })?;
-        }
-        let first = sim.lookup(alloc, &Key::least(alloc), Dir::Forward)?;
-        assert!(rt; rows_in(&first) == 1);
-        let second = sim.lookup(alloc, &Key::least(alloc), Dir::Forward)?;
-        assert!(rt; rows_in(&second) == 2);
-        assert!(rt; sim.count == 2);
+        sim.start_block(alloc, &block, Stamp(0))?;
+        assert!(rt; sim.pick(3) == 2);
+        assert!(rt; sim.pick(3) == 1);
+        assert!(rt; sim.pick(3) == 0);
     }
     Ok(())
 }

@@ -1,5 +1,10 @@
+use Rattle.std.proofs.Common.{subst}
+use Rattle.ds_sim.specs.Made.{CanBeMade}
 use Rattle.ds_sim.proofs.Moving.{made_of_ranges}
 use Rattle.ds_sim.proofs.event.make.Goals as goal
+
+pub write_copy-requires : goal.write_copy-requires
+write_copy-requires c = subst CanBeMade c.in-Write.is c.requires
 
 pub returns-in_ok-write_copy-in-Write-clause-ok : goal.returns-in_ok-write_copy-in-Write-clause-ok
 returns-in_ok-write_copy-in-Write-clause-ok c =

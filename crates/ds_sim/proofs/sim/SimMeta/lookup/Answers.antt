@@ -1,5 +1,5 @@
 use Rattle.std.proofs.Common.{rules, ◌≡◌, None, position}
-use Rattle.ds_desc.specs.Contains.{contains}
+use Rattle.ds_rule.specs.World.{answers_lookup}
 use Rattle.ds_sim.proofs.Looking.{armed-first-ok, armed-looks, up-looks}
 use Rattle.ds_sim.proofs.sim.SimMeta.lookup.Goals as goal
 
@@ -9,12 +9,12 @@ returns-in-Some-clause-rows c = armed-first-ok c.args.key.now c.args.dir c.args.
 pub returns-in-Some-clause-looked : goal.returns-in-Some-clause-looked
 returns-in-Some-clause-looked c =
     let s = c.args.self.now in
-    armed-looks c.args.key.now c.args.dir s.ranges s.armed.items c.look_armed.new.armed.items s.records s.count s.steps.items c.look_armed.new.steps.items s.floor.0 s.refused c.look_armed.result
+    armed-looks c.args.key.now c.args.dir s.ranges s.armed.items c.look_armed.new.armed.items s.records s.count s.steps.items c.look_armed.new.steps.items s.floor.0 s.refused s.picks.items c.look_armed.result
     c.look_armed.ensures.looks c.requires c.look_armed.ensures.steps c.look_armed.ensures.err c.look_armed.ensures.err_steps
 
 pub returns-in-None-clause-looked : goal.returns-in-None-clause-looked
 returns-in-None-clause-looked c =
     let s = c.args.self.now in
-    let none : position (λ a. contains c.args.dir c.args.key.now a.span) c.args.self.now.armed.items ≡ None = search rules in
-    up-looks c.args.key.now c.args.dir s.ranges s.armed.items s.records s.count s.steps.items c.look_up.new.steps.items s.floor.0 s.refused c.look_up.result none
+    let none : position (answers_lookup c.args.dir c.args.key.now) c.args.self.now.armed.items ≡ None = search rules in
+    up-looks c.args.key.now c.args.dir s.ranges s.armed.items s.records s.count s.steps.items c.look_up.new.steps.items s.floor.0 s.refused s.picks.items c.look_up.result none
     c.look_up.ensures.looks c.requires c.look_up.ensures.steps c.look_up.ensures.err_steps
