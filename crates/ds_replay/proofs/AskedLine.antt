@@ -106,7 +106,7 @@ turned budget s a mid t p b block n q steps o world asker sent is past c =
         record {
           asked = q;
           asks = ap (λ x. asking x b) asker ∙ is;
-          plays = subst (λ ts. BlockPlays q 1 ts s.world steps mid.world) (sym none) (subst (λ w. BlockPlays q 1 [] w steps mid.world) (sym world) c.plays);
+          plays = subst (λ ts. BlockPlays q [] 1 ts s.world steps mid.world) (sym none) (subst (λ w. BlockPlays q [] 1 [] w steps mid.world) (sym world) c.plays);
         },
         refl,
       );

@@ -1,5 +1,5 @@
 -- The lines of a script but for batches.
-use Rattle.std.proofs.Common.{◌≡◌, ℕ, ◌+◌, ◌≤◌, true, false, ◌&&◌, List, [], ◌∷◌, ◌++◌, Option, Some, None, refl, sym, ap, ◌∙◌, subst, nat_lt, arith}
+use Rattle.std.proofs.Common.{◌≡◌, ℕ, ◌+◌, ◌<◌, ◌≤◌, true, false, ◌&&◌, List, [], ◌∷◌, ◌++◌, Option, Some, None, refl, sym, ap, ◌∙◌, subst, nat_lt, arith}
 use Rattle.std.specs.List.{list_all}
 use Rattle.ds_base.proofs.SmallFacts.{and_first, and_second, append_nil, lt_of}
 use Rattle.ds_base.specs.Order.{key_lt, bound}
@@ -17,7 +17,7 @@ use Rattle.ds_rule.specs.Moves.{moved}
 use Rattle.ds_rule.specs.Plain.{after_event}
 use Rattle.ds_rule.specs.StandsFor.{StandsFor, open_stamp}
 use Rattle.ds_law.proofs.Lifetime.{first-stands, begin-stands, close-stands, close-says}
-use Rattle.ds_law.proofs.Standing.{stands-moved}
+use Rattle.ds_law.proofs.Standing.{stands-write}
 use Rattle.ds_law.proofs.Steadiness.{begin-steady, close-steady, first-steady, write-steady}
 use Rattle.ds_script.specs.declared.line.Line.TheVariants as lines
 use Rattle.ds_script.specs.declared.line.Numbered.{Numbered}
@@ -72,7 +72,7 @@ cluster-line sim c s p tile leased is at =
 write-in : (sim new : Sim) (begun : ℕ) (s : Played) (p : Store) (k : Key) (t : Stamp) (v : Option Value) (floor : ℕ) → (key_lt k bound && nat_lt floor t.0) ≡ true → open_stamp p.txn ≤ floor → state_of new ≡ record (state_of sim) { world = moved (state_of sim).world (Write k t v) } → IsIn sim begun s p → IsIn new begun (record s { world = moved s.world (Write k t v) }) (after_event (Write k t v) p)
 write-in sim new begun s p k t v floor fits low is at = record {
   world = ap (λ w. moved w (Write k t v)) at.world ∙ sym (ap (λ z. z.world) is);
-  stands = stands-moved s.world p (Write k t v) floor (lt_of floor t.0 (and_second (key_lt k bound) _ fits), and_first (key_lt k bound) _ fits) low at.stands;
+  stands = stands-write s.world p k (record { stamp = t; value = v }) (and_first (key_lt k bound) _ fits) (let high : floor < t.0 = lt_of floor t.0 (and_second (key_lt k bound) _ fits) in omega (arith, low, high)) at.stands;
   steady = write-steady s.world k t v at.steady;
   played = at.played;
   stored = at.stored;
