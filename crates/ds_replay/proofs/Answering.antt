@@ -21,7 +21,9 @@ use Rattle.ds_rule.specs.Pieces.{Each}
 use Rattle.ds_rule.specs.Plain.{is_pending}
 use Rattle.ds_rule.specs.StandsFor.{Ready}
 use Rattle.ds_rule.specs.Steady.{Steady}
+use Rattle.ds_rule.proofs.OldSender.{old-sender-steps}
 use Rattle.ds_law.proofs.NeverEnded.{EndsNone}
+use Rattle.ds_law.proofs.ReadLaw.{no-left}
 use Rattle.ds_law.proofs.Recorded.{Pends}
 use Rattle.ds_law.proofs.Steadiness.{quiet-steady}
 use Rattle.ds_law.proofs.WholeGathered.{whole-gathered}
@@ -35,7 +37,7 @@ use Rattle.ds_replay.proofs.Coming.{Undisturbed, comes-each, comes-whole, reads-
 -- what a batch's block was, for a store
 pub record Came (budget : ℕ) (a mid : Stands) (asks : Asks) (p : Store) (b : Batch) (q : Asking) (steps : List JournalStep) (o : Outcome) : Type 0 where
   pub lead : LeadsTo a mid p b o
-  pub plays : BlockPlays q 1 [] a.world steps mid.world
+  pub plays : BlockPlays q [] 1 [] a.world steps mid.world
   pub gathers : BatchGathers asks b steps o
   pub comes : MayCome o
   pub steady : Steady mid.world
@@ -89,9 +91,10 @@ block-quiet q x y got steps none still bl =
     quiet-steps (Rose x.lost y.lost) steps (λ r. never-rose (subst (λ m. Rose 0 m) still (subst (λ n. Rose n y.lost) none r)))
     (subst (Each (LosesOnly (Rose x.lost y.lost))) bl.added bl.path.losses)
 
-block-plays : (q : Asking) (x y : Stands) (got : List Accepted) (steps : List JournalStep) → x.lost ≡ 0 → y.lost ≡ 0 → Block q x y got steps → BlockPlays q 1 [] x.world steps y.world
-block-plays q x y got steps none still bl =
-    steps-play q 1 steps x.world y.world (subst (Each (IsOf q)) bl.added bl.path.of) (block-quiet q x y got steps none still bl) (subst (λ hs. Runs x.world hs y.world) bl.added bl.path.runs)
+block-plays : (q : Asking) (x y : Stands) (got : List Accepted) (steps : List JournalStep) → q.head.left ≡ None → x.lost ≡ 0 → y.lost ≡ 0 → Block q x y got steps → BlockPlays q [] 1 [] x.world steps y.world
+block-plays q x y got steps unlimited none still bl =
+    let runs : Runs x.world (map Stepped steps) y.world = subst (λ hs. Runs x.world hs y.world) bl.added bl.path.runs in
+    steps-play q [] 1 steps x.world y.world (old-sender-steps q [] (map Stepped steps) x.world y.world unlimited runs (subst (Each (IsOf q)) bl.added bl.path.of)) (block-quiet q x y got steps none still bl) runs
 
 block-got : (q : Asking) (x y : Stands) (got : List Accepted) (steps : List JournalStep) → Block q x y got steps → got ≡ accepted_in steps
 block-got q x y got steps bl = sym bl.path.gives ∙ ap accepted bl.added ∙ steps-accepted steps
@@ -111,7 +114,7 @@ came-each budget asks b q x y p steps o start none still past kept is apart read
     let bl : Block q x y did.got steps = record { path = did.path; added = added } in
     record {
       lead = plain p ready;
-      plays = block-plays q x y did.got steps none still bl;
+      plays = block-plays q x y did.got steps (no-left x p b q reading.unlimited ready) none still bl;
       gathers = gather-each budget asks b q did.path.added did.got steps o is apart (block-got q x y did.got steps bl) did.cause;
       comes = comes-each budget b q x y p o did tries given (undisturbed b q x y p did.got steps none still steady ready pend (reads-endless q.items reading.reads) bl);
       steady = block-steady q x y did.got steps none still ready.stands.keeps steady bl;
@@ -133,7 +136,7 @@ came-whole budget asks b q x y p steps o start none still past kept is one send 
     let law = plain p ready may (λ hs grown. subst (Each IsQuiet) (sym (sym (grown ∙ ap (λ zs. zs ++ hs) start) ∙ past)) quiet) in
     record {
       lead = law.0;
-      plays = block-plays q x y did.got steps none still bl;
+      plays = block-plays q x y did.got steps send.unlimited none still bl;
       gathers = gather-whole budget asks b q x y did.got did.path steps o is one send (block-got q x y did.got steps bl) added did.cause;
       comes = comes-whole budget b q x y p o did tries given (undisturbed b q x y p did.got steps none still steady ready pend (whole-endless q.items send.endless) bl);
       steady = block-steady q x y did.got steps none still ready.stands.keeps steady bl;
@@ -151,7 +154,7 @@ came-illegal budget asks b q x y p steps i o broken start past same is steady le
     let none = nothing-past steps (sym start ∙ sym (ap (λ z. z.past) same) ∙ past) in
     record {
       lead = lead;
-      plays = subst (λ ss. BlockPlays q 1 [] x.world ss y.world) (sym none) (ap (λ z. z.world) same);
+      plays = subst (λ ss. BlockPlays q [] 1 [] x.world ss y.world) (sym none) (ap (λ z. z.world) same);
       gathers = subst (λ o. BatchGathers asks b steps o) (sym is) tt;
       comes = subst MayCome (sym is) tt;
       steady = subst Steady (sym (ap (λ z. z.world) same)) steady;

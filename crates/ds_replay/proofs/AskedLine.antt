@@ -1,6 +1,5 @@
 -- The line of a batch.
-use Rattle.std.proofs.Common.{◌≡◌, ℕ, suc, ◌<◌, ◌==◌, Bool, true, false, List, [], ◌∷◌, map, length, Option, Some, None, refl, sym, ap, ◌∙◌, subst, arith}
-use Rattle.std.proofs.lemmas.Bool.Decides.{nat_tests}
+use Rattle.std.proofs.Common.{◌≡◌, ℕ, ◌<◌, Bool, true, false, List, [], map, Option, Some, None, refl, sym, ap, ◌∙◌, subst}
 use Rattle.ds_base.proofs.SmallFacts.{and_first, and_second}
 use Rattle.ds_kind.specs.declared.batch.Batch.{Batch}
 use Rattle.ds_kind.specs.declared.illegal.Illegal.{Illegal}
@@ -34,6 +33,7 @@ use Rattle.ds_replay.specs.Asked.{AskedBy, begun_block}
 use Rattle.ds_replay.specs.Built.{is_sent}
 use Rattle.ds_replay.proofs.Answering.{Came, came-each, came-whole, came-illegal}
 use Rattle.ds_replay.proofs.Blocks.{steps-made}
+use Rattle.ds_replay.proofs.Quiet.{no-events}
 use Rattle.ds_replay.proofs.Readiness.{is-asked}
 
 -- all that a batch's line owes: who asks, that the cluster is ready and steady, what the batch may do, and that its
@@ -74,18 +74,6 @@ came a c budget t p b asks n log after by tries built owes still =
           (subst (λ x. Plain (first_illegal b) b x (begun_block a t b) by.mid by.outcome) k.1 by.plain),
     )
 
--- what it leads to
-
-empty-of : {X : Type 0} (xs : List X) → (length xs == 0) ≡ true → xs ≡ []
-empty-of [] h = refl
-empty-of (x ∷ xs) h = absurd (some (length xs) h)
-  where
-    some : (n : ℕ) → (suc n == 0) ≡ true → ⊥
-    some n h = grind (arith, nat_tests)
-
-pub quiet-block : (b : Batch) (block : Block) → is_sent b block ≡ true → block.events ≡ []
-quiet-block b block h = empty-of block.events (and_first (length block.events == 0) _ (and_second (Sends.is_built b) _ h))
-
 -- the line's turns, and the store at its end
 pub record Turned (s : Played) (p : Store) (b : Batch) (block : Block) (n : ℕ) (steps : List JournalStep) (o : Outcome) (w : World) : Type 0 where
   pub next : Store
@@ -97,7 +85,7 @@ pub record Turned (s : Played) (p : Store) (b : Batch) (block : Block) (n : ℕ)
 
 pub turned : (budget : ℕ) (s : Played) (a mid : Stands) (t : Option Asker) (p : Store) (b : Batch) (block : Block) (n : ℕ) (q : Asking) (steps : List JournalStep) (o : Outcome) → s.world ≡ a.world → s.asks.asker ≡ t → is_sent b block ≡ true → asking t b ≡ Some q → mid.past ≡ map Stepped steps → Came budget (begun_block a t b) mid s.asks p b q steps o → Turned s p b block n steps o mid.world
 turned budget s a mid t p b block n q steps o world asker sent is past c =
-    let none = quiet-block b block sent in
+    let none = no-events block (and_second (Sends.is_built b) _ sent) in
     let added : c.lead.added ≡ map Stepped steps = sym c.lead.grown ∙ past in
     record {
       next = c.lead.next;
@@ -106,7 +94,7 @@ turned budget s a mid t p b block n q steps o world asker sent is past c =
         record {
           asked = q;
           asks = ap (λ x. asking x b) asker ∙ is;
-          plays = subst (λ ts. BlockPlays q 1 ts s.world steps mid.world) (sym none) (subst (λ w. BlockPlays q 1 [] w steps mid.world) (sym world) c.plays);
+          plays = subst (λ ts. BlockPlays q [] 1 ts s.world steps mid.world) (sym none) (subst (λ w. BlockPlays q [] 1 [] w steps mid.world) (sym world) c.plays);
         },
         refl,
       );

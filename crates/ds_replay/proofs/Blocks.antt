@@ -11,10 +11,11 @@ use Rattle.ds_rule.specs.Asking.{Asking}
 use Rattle.ds_rule.specs.Blocks.{BlockPlays}
 use Rattle.ds_rule.specs.Cause.{IsIdle, LastServes}
 use Rattle.ds_rule.specs.Clauses.{IsLost}
-use Rattle.ds_rule.specs.Journal.{Happening, Moved, Did, BothWays, Runs, accepted, accepted_by, step_world}
+use Rattle.ds_rule.specs.Journal.{Happening, Moved, Did, BothWays, Runs, Accepted, accepted, accepted_by, step_world}
 use Rattle.ds_rule.specs.Law.{IsQuiet}
-use Rattle.ds_rule.specs.Path.{IsOf, LosesOnly}
+use Rattle.ds_rule.specs.Path.{LosesOnly}
 use Rattle.ds_rule.specs.Pieces.{Each}
+use Rattle.ds_rule.specs.Sending.{AllOf}
 use Rattle.ds_rule.specs.StandsFor.{after_made}
 use Rattle.ds_rule.specs.World.{World}
 use Rattle.ds_rule.proofs.Passing.{kept_both}
@@ -29,11 +30,11 @@ pub quiet-steps : (r : Type 0) (steps : List JournalStep) → (r → ⊥) → Ea
 quiet-steps r [] never all = tt
 quiet-steps r (s ∷ ss) never all = ((λ l. never (all.0 l)), quiet-steps r ss never all.1)
 
-pub steps-play : (q : Asking) (n : ℕ) (steps : List JournalStep) (w v : World) → Each (IsOf q) (map Did steps) → Each IsQuiet (map Did steps) → Runs w (map Did steps) v → BlockPlays q n [] w steps v
-steps-play q n [] w v of quiet r = r
-steps-play q n (s ∷ ss) w v of quiet r =
+pub steps-play : (q : Asking) (got : List Accepted) (n : ℕ) (steps : List JournalStep) (w v : World) → AllOf q got (map Did steps) → Each IsQuiet (map Did steps) → Runs w (map Did steps) v → BlockPlays q got n [] w steps v
+steps-play q got n [] w v of quiet r = r
+steps-play q got n (s ∷ ss) w v of quiet r =
     let told = kept_both w s r.0 quiet.0 r.1 in
-    (of.0, told.0, steps-play q (n + 1) ss (step_world BothWays [] w s) v of.1 quiet.1 (subst (λ m. Runs m (map Did ss) v) told.1 r.2))
+    (of.0, told.0, steps-play q (got ++ accepted_by s) (n + 1) ss (step_world BothWays [] w s) v of.1 quiet.1 (subst (λ m. Runs m (map Did ss) v) told.1 r.2))
 
 pub steps-made : (steps : List JournalStep) (p : Store) → after_made (map Did steps) p ≡ p
 steps-made [] p = refl

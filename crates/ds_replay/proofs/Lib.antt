@@ -5,6 +5,7 @@ pub mod Blocks
 pub mod Coming
 pub mod Counts
 pub mod OtherLines
+pub mod Quiet
 pub mod Readiness
 pub mod Staying
 pub mod Takings

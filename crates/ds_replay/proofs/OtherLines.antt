@@ -1,11 +1,11 @@
 -- The lines of a script but for batches.
-use Rattle.std.proofs.Common.{◌≡◌, ℕ, ◌+◌, ◌≤◌, true, false, ◌&&◌, List, [], ◌∷◌, ◌++◌, Option, Some, None, refl, sym, ap, ◌∙◌, subst, nat_lt, arith}
+use Rattle.std.proofs.Common.{◌≡◌, ℕ, ◌+◌, ◌<◌, ◌≤◌, true, false, ◌&&◌, List, [], ◌∷◌, ◌++◌, Option, Some, None, length, refl, sym, ap, ◌∙◌, subst, nat_le, nat_lt, arith}
 use Rattle.std.specs.List.{list_all}
 use Rattle.ds_base.proofs.SmallFacts.{and_first, and_second, append_nil, lt_of}
-use Rattle.ds_base.specs.Order.{key_lt, bound}
 use Rattle.ds_base.specs.declared.key.Key.{Key}
 use Rattle.ds_base.specs.declared.value.Stamp.{Stamp}
 use Rattle.ds_base.specs.declared.value.Value.{Value}
+use Rattle.ds_kind.specs.Asks.{has_room}
 use Rattle.ds_cell.specs.Store.{Store, StoreTxn}
 use Rattle.ds_rule.specs.declared.cluster.Cluster.{Cluster}
 use Rattle.ds_rule.specs.declared.event.Event.TheVariants.{Write}
@@ -17,7 +17,7 @@ use Rattle.ds_rule.specs.Moves.{moved}
 use Rattle.ds_rule.specs.Plain.{after_event}
 use Rattle.ds_rule.specs.StandsFor.{StandsFor, open_stamp}
 use Rattle.ds_law.proofs.Lifetime.{first-stands, begin-stands, close-stands, close-says}
-use Rattle.ds_law.proofs.Standing.{stands-moved}
+use Rattle.ds_law.proofs.Standing.{stands-write}
 use Rattle.ds_law.proofs.Steadiness.{begin-steady, close-steady, first-steady, write-steady}
 use Rattle.ds_script.specs.declared.line.Line.TheVariants as lines
 use Rattle.ds_script.specs.declared.line.Numbered.{Numbered}
@@ -69,16 +69,16 @@ cluster-line sim c s p tile leased is at =
 
 -- a write
 
-write-in : (sim new : Sim) (begun : ℕ) (s : Played) (p : Store) (k : Key) (t : Stamp) (v : Option Value) (floor : ℕ) → (key_lt k bound && nat_lt floor t.0) ≡ true → open_stamp p.txn ≤ floor → state_of new ≡ record (state_of sim) { world = moved (state_of sim).world (Write k t v) } → IsIn sim begun s p → IsIn new begun (record s { world = moved s.world (Write k t v) }) (after_event (Write k t v) p)
+write-in : (sim new : Sim) (begun : ℕ) (s : Played) (p : Store) (k : Key) (t : Stamp) (v : Option Value) (floor : ℕ) → (has_room k && nat_lt floor t.0) ≡ true → open_stamp p.txn ≤ floor → state_of new ≡ record (state_of sim) { world = moved (state_of sim).world (Write k t v) } → IsIn sim begun s p → IsIn new begun (record s { world = moved s.world (Write k t v) }) (after_event (Write k t v) p)
 write-in sim new begun s p k t v floor fits low is at = record {
   world = ap (λ w. moved w (Write k t v)) at.world ∙ sym (ap (λ z. z.world) is);
-  stands = stands-moved s.world p (Write k t v) floor (lt_of floor t.0 (and_second (key_lt k bound) _ fits), and_first (key_lt k bound) _ fits) low at.stands;
+  stands = stands-write s.world p k (record { stamp = t; value = v }) (and_second (nat_le (length k) 64) _ (and_first (has_room k) _ fits)) (let high : floor < t.0 = lt_of floor t.0 (and_second (has_room k) _ fits) in omega (arith, low, high)) at.stands;
   steady = write-steady s.world k t v at.steady;
   played = at.played;
   stored = at.stored;
 }
 
-pub write-closed : {budget : ℕ} (sim new : Sim) (begun : ℕ) (s : Played) (p : Store) (k : Key) (t : Stamp) (v : Option Value) → (key_lt k bound && nat_lt 0 t.0) ≡ true → state_of new ≡ record (state_of sim) { world = moved (state_of sim).world (Write k t v) } → StandsAt (State.Closed sim begun) s p → LineTaken budget (State.Closed sim begun) (State.Closed new begun) (lines.Write k t v) None s p
+pub write-closed : {budget : ℕ} (sim new : Sim) (begun : ℕ) (s : Played) (p : Store) (k : Key) (t : Stamp) (v : Option Value) → (has_room k && nat_lt 0 t.0) ≡ true → state_of new ≡ record (state_of sim) { world = moved (state_of sim).world (Write k t v) } → StandsAt (State.Closed sim begun) s p → LineTaken budget (State.Closed sim begun) (State.Closed new begun) (lines.Write k t v) None s p
 write-closed sim new begun s p k t v fits is at =
     quiet-line (State.Closed sim begun) (State.Closed new begun) (lines.Write k t v) s (record s { world = moved s.world (Write k t v) }) p (after_event (Write k t v) p) (refl, refl) (tt, refl) refl tt
     (write-in sim new begun s p k t v 0 fits (subst (λ o. open_stamp o ≤ 0) (sym at.2) (omega arith)) is at.0, at.1, at.2)
@@ -87,7 +87,7 @@ open-low : (txn : Txn) (o : Option StoreTxn) → HasOpen txn o → open_stamp o 
 open-low txn None h = absurd h
 open-low txn (Some t) h = let same : t.asker.stamp ≡ txn.stamp.0 = ap (λ a. a.stamp) h.asker in omega (arith, same)
 
-pub write-open : {budget : ℕ} (sim new : Sim) (txn : Txn) (begun : ℕ) (s : Played) (p : Store) (k : Key) (t : Stamp) (v : Option Value) → (key_lt k bound && nat_lt txn.stamp.0 t.0) ≡ true → state_of new ≡ record (state_of sim) { world = moved (state_of sim).world (Write k t v) } → StandsAt (State.Open sim txn begun) s p → LineTaken budget (State.Open sim txn begun) (State.Open new txn begun) (lines.Write k t v) None s p
+pub write-open : {budget : ℕ} (sim new : Sim) (txn : Txn) (begun : ℕ) (s : Played) (p : Store) (k : Key) (t : Stamp) (v : Option Value) → (has_room k && nat_lt txn.stamp.0 t.0) ≡ true → state_of new ≡ record (state_of sim) { world = moved (state_of sim).world (Write k t v) } → StandsAt (State.Open sim txn begun) s p → LineTaken budget (State.Open sim txn begun) (State.Open new txn begun) (lines.Write k t v) None s p
 write-open sim new txn begun s p k t v fits is at =
     quiet-line (State.Open sim txn begun) (State.Open new txn begun) (lines.Write k t v) s (record s { world = moved s.world (Write k t v) }) p (after_event (Write k t v) p) (refl, refl) (tt, refl) refl tt
     (write-in sim new begun s p k t v txn.stamp.0 fits (open-low txn p.txn at.2) is at.0, at.1, at.2)

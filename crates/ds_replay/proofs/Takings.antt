@@ -5,6 +5,7 @@ use Rattle.ds_base.proofs.SmallFacts.{and_first, and_second, le_of}
 use Rattle.ds_base.specs.declared.key.Key.{Key}
 use Rattle.ds_base.specs.declared.value.Stamp.{Stamp}
 use Rattle.ds_base.specs.declared.value.Value.{Value}
+use Rattle.ds_kind.specs.Asks.{has_room}
 use Rattle.ds_kind.specs.declared.batch.Batch.{Batch}
 use Rattle.ds_cell.specs.Store.{Store}
 use Rattle.ds_rule.specs.declared.cluster.Cluster.{Cluster}
@@ -21,13 +22,14 @@ use Rattle.ds_script.specs.declared.line.Numbered.{Numbered}
 use Rattle.ds_script.specs.Journals.{Played}
 use Rattle.ds_script.specs.Runs.{has_entry, TakesEntry}
 use Rattle.ds_send.specs.Asked.{asker_of}
+use Rattle.ds_send.specs.Batch as Sends
 use Rattle.ds_send.specs.Sent.{IsOpenFor}
 use Rattle.ds_send.specs.declared.txn.Txn.{Txn}
 use Rattle.ds_sim.specs.declared.sim.Sim.{Sim}
 use Rattle.ds_sim.specs.State.{state_of}
 use Rattle.ds_replay.specs.declared.state.State.{State}
 use Rattle.ds_replay.specs.Asked.{AskedBy}
-use Rattle.ds_replay.specs.Built.{Stage, Start, Closed, Open, next_stage, is_cluster, is_sent}
+use Rattle.ds_replay.specs.Built.{Stage, Start, Closed, Open, next_stage, is_cluster, is_quiet, is_sent, may_stand_by}
 use Rattle.ds_replay.specs.Stages.{StandsAt}
 use Rattle.ds_replay.specs.Taken.{LineTaken, Taken}
 use Rattle.ds_replay.proofs.Batches.{asked-closed, asked-open}
@@ -125,3 +127,19 @@ one-more sim new m same h = omega (arith, same, h)
 
 pub more : (n m : ℕ) → n ≤ m → n ≤ m + 1
 more n m h = omega (arith, h)
+
+-- what a line of a built form owes the cluster
+
+pub write-closed-room : (k : Key) (t : Stamp) (v : Option Value) (l : Numbered) → l.line ≡ lines.Write k t v → IsSome (next_stage Closed l.line) → has_room k ≡ true
+write-closed-room k t v l is built = and_first (has_room k) _ (some-if _ Closed (built-line Closed l (lines.Write k t v) is built))
+
+pub write-open-room : (at : ℕ) (k : Key) (t : Stamp) (v : Option Value) (l : Numbered) → l.line ≡ lines.Write k t v → IsSome (next_stage (Open at) l.line) → has_room k ≡ true
+write-open-room at k t v l is built = and_first (has_room k) _ (some-if _ (Open at) (built-line (Open at) l (lines.Write k t v) is built))
+
+pub closed-quiet : (b : Batch) (block : Block) (l : Numbered) → l.line ≡ lines.Batch b block → IsSome (next_stage Closed l.line) → is_quiet block ≡ true
+closed-quiet b block l is built =
+    and_second (Sends.is_built b) _ (and_second (is_some b.at) _ (some-if (is_some b.at && is_sent b block) Closed (built-line Closed l (lines.Batch b block) is built)))
+
+pub open-quiet : (at : ℕ) (b : Batch) (block : Block) (l : Numbered) → l.line ≡ lines.Batch b block → IsSome (next_stage (Open at) l.line) → is_quiet block ≡ true
+open-quiet at b block l is built =
+    and_second (Sends.is_built b) _ (and_second (may_stand_by at b.at b.requests) _ (some-if (may_stand_by at b.at b.requests && is_sent b block) (Open at) (built-line (Open at) l (lines.Batch b block) is built)))

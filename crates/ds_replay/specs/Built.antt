@@ -1,8 +1,8 @@
 -- The scripts that are built so far.
 use Rattle.std.specs.Prelude.{◌≡◌, ℕ, Bool, true, ◌&&◌, List, [], ◌∷◌, length, nat_le, nat_lt, Option, Some, None, is_some, if◌then◌else◌, ◌==◌, refl}
 use Rattle.std.specs.List.{list_all}
-use Rattle.ds_base.specs.Order.{key_lt, bound}
 use Rattle.ds_base.specs.declared.value.Stamp.{Stamp}
+use Rattle.ds_kind.specs.Asks.{has_room}
 use Rattle.ds_kind.specs.declared.batch.Batch.{Batch}
 use Rattle.ds_kind.specs.declared.request.Request.{Request}
 use Rattle.ds_rule.specs.declared.event.Block.{Block}
@@ -39,11 +39,11 @@ is_sent b block = Sends.is_built b && is_quiet block
 abbrev pub next_stage : Stage → Line → Option Stage
 next_stage Start (Line.Cluster c) = if is_cluster c.ranges then Some Closed else None
 next_stage Start l = None
-next_stage Closed (Line.Write k s v) = if key_lt k bound && nat_lt 0 s.0 then Some Closed else None
+next_stage Closed (Line.Write k s v) = if has_room k && nat_lt 0 s.0 then Some Closed else None
 next_stage Closed (Line.Begin s k) = Some (Open s.0)
 next_stage Closed (Line.Batch b block) = if is_some b.at && is_sent b block then Some Closed else None
 next_stage Closed l = None
-next_stage (Open t) (Line.Write k s v) = if key_lt k bound && nat_lt t s.0 then Some (Open t) else None
+next_stage (Open t) (Line.Write k s v) = if has_room k && nat_lt t s.0 then Some (Open t) else None
 next_stage (Open t) (Line.Batch b block) = if may_stand_by t b.at b.requests && is_sent b block then Some (Open t) else None
 next_stage (Open t) Line.Close = Some Closed
 next_stage (Open t) l = None

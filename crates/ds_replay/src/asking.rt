@@ -9,10 +9,11 @@ ghost use Rattle.ds_send.specs.Sent.{IsOpenFor};
 ghost use Rattle.ds_sim.specs.State.{state_of};
 ghost use Rattle.ds_text.specs.Log.{has_texts};
 ghost use Rattle.ds_replay.specs.Asked.{AskedBy, floor_of};
+ghost use Rattle.ds_replay.specs.Built.{is_quiet};
 
 use ds_base::Stamp;
 use ds_kind::Batch;
-use ds_rule::{Entry, JournalSteps, Outcome, RunLog};
+use ds_rule::{Block, Entry, JournalSteps, Outcome, RunLog};
 use ds_send::{Sender, Txn};
 use ds_sim::Sim;
 use std::alloc::{AllocError, Global};
@@ -39,6 +40,14 @@ fn given(outcome: Outcome) -> Result<Outcome, AllocError>
     }
 }
 
+/// Begins a block beside which nothing happens, and in which no piece is picked.
+fn begin_quiet(alloc: Global, sim: &mut Sim, block: &Block, floor: Stamp) -> Result<(), AllocError>
+    requires { is_quiet block.now ≡ true }
+    ensures { OnOk result (state_of sim.new ≡ record (state_of sim.old) { past = []; floor = floor.0; ahead = [] }) }
+{
+    sim.start_block(alloc, block, floor)
+}
+
 /// Notes a batch's steps and what it came to.
 fn note(
     alloc: Global,
@@ -62,7 +71,8 @@ fn note(
     )
 }
 
-/// Sends the batch in a block of its own, and notes its steps and what it came to.
+/// Sends the batch in its block, in which nothing happens and no piece is picked, and notes its
+/// steps and what it came to.
 pub(crate) fn ask(
     alloc: Global,
     sim: &mut Sim,
@@ -70,8 +80,10 @@ pub(crate) fn ask(
     txn: Option<Txn>,
     line: u32,
     batch: &Batch,
+    block: &Block,
     log: &mut RunLog,
 ) -> Result<(), AllocError>
+    requires quiet { is_quiet block.now ≡ true }
     requires built { is_built batch.now ≡ true }
     requires open { IsOpenFor batch.now.at (asker_in txn) }
     requires texts { has_texts log.old ≡ true }
@@ -81,7 +93,7 @@ pub(crate) fn ask(
 {
     let mut open = txn;
     let floor = floor_of(&open, batch.at);
-    sim.start_block(alloc, floor);
+    begin_quiet(alloc, sim, block, floor)?;
     let outcome = given(sender.send(alloc, sim, &mut open, batch))?;
     let steps = sim.end_block(alloc);
     note(alloc, log, line, steps, outcome)

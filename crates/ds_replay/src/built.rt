@@ -1,11 +1,11 @@
 //! Which scripts are built so far.
 ghost use Rattle.std.specs.Prelude.{◌≡◌, option_map, Some, None, if◌then◌else◌};
-ghost use Rattle.ds_base.specs.Order.{key_lt, bound};
+ghost use Rattle.ds_kind.specs.Asks as Asks;
 ghost use Rattle.ds_send.specs.Batch as Sends;
 ghost use Rattle.ds_replay.specs.Built.{Stage, Start, Closed, Open, next_stage, is_cluster, is_quiet, may_stand_by, is_sent, first_unbuilt};
 ghost use Rattle.ds_replay.specs.Forms.{form_stage};
 
-use ds_base::Stamp;
+use ds_base::{Key, Stamp};
 use ds_kind::{Batch, Request};
 use ds_rule::{Block, ClusterRange};
 use ds_script::{Line, Script};
@@ -30,6 +30,13 @@ fn is_quiet(block: &Block) -> bool
     ensures { result ≡ is_quiet block.now }
 {
     block.events.len() == 0 && block.picks.len() == 0
+}
+
+/// Whether the key after this one is a key too.
+fn has_room(key: &Key) -> bool
+    ensures { result ≡ Asks.has_room key.now }
+{
+    key.bytes().len() <= 64 && key.is_below_bound()
 }
 
 fn may_stand_by(open: Stamp, at: Option<Stamp>, requests: &[Request]) -> bool
@@ -66,9 +73,7 @@ fn after_closed(line: &Line) -> Option<Form>
     ensures { option_map form_stage result ≡ next_stage Closed line.now }
 {
     match line {
-        Line::Write { key, stamp, .. } => {
-            only_if(key.is_below_bound() && 0 < stamp.0, Form::Closed)
-        }
+        Line::Write { key, stamp, .. } => only_if(has_room(key) && 0 < stamp.0, Form::Closed),
         Line::Begin { stamp, .. } => Some(Form::Open(*stamp)),
         Line::Batch { batch, block } => {
             only_if(batch.at.is_some() && is_sent(batch, block), Form::Closed)
@@ -82,7 +87,7 @@ fn after_open(open: Stamp, line: &Line) -> Option<Form>
 {
     match line {
         Line::Write { key, stamp, .. } => {
-            only_if(key.is_below_bound() && open < *stamp, Form::Open(open))
+            only_if(has_room(key) && open < *stamp, Form::Open(open))
         }
         Line::Batch { batch, block } => only_if(
             may_stand_by(open, batch.at, batch.requests.as_slice()) && is_sent(batch, block),

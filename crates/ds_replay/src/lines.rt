@@ -82,8 +82,17 @@ fn from_closed(
             let txn = Txn::begin(number, *stamp);
             Ok(State::Open { sim, txn, begun })
         }
-        Line::Batch { batch, .. } => {
-            ask(alloc, &mut sim, sender, None, numbered.number, batch, log)?;
+        Line::Batch { batch, block } => {
+            ask(
+                alloc,
+                &mut sim,
+                sender,
+                None,
+                numbered.number,
+                batch,
+                block,
+                log,
+            )?;
             Ok(State::Closed { sim, begun })
         }
         _ => unreachable!(),
@@ -115,9 +124,18 @@ fn from_open(
             sim.write(alloc, key, *stamp, value.copy(alloc)?)?;
             Ok(State::Open { sim, txn, begun })
         }
-        Line::Batch { batch, .. } => {
+        Line::Batch { batch, block } => {
             let open = Some(txn);
-            ask(alloc, &mut sim, sender, open, numbered.number, batch, log)?;
+            ask(
+                alloc,
+                &mut sim,
+                sender,
+                open,
+                numbered.number,
+                batch,
+                block,
+                log,
+            )?;
             Ok(State::Open { sim, txn, begun })
         }
         Line::Close => {

@@ -1,4 +1,4 @@
-use Rattle.ds_replay.proofs.Takings.{asked-closed-taken, begin-taken, count-closed, more, one-more, write-closed-taken}
+use Rattle.ds_replay.proofs.Takings.{asked-closed-taken, begin-taken, closed-quiet, count-closed, more, one-more, write-closed-room, write-closed-taken}
 use Rattle.ds_replay.proofs.lines.from_closed.Goals as goal
 
 pub returns-in_ok-write-in-Write-clause-taken : goal.returns-in_ok-write-in-Write-clause-taken
@@ -18,3 +18,9 @@ returns-in_ok-ask-in-Batch-clause-within c =
 pub returns-in_ok-ask-in-Batch-clause-taken : goal.returns-in_ok-ask-in-Batch-clause-taken
 returns-in_ok-ask-in-Batch-clause-taken c =
     asked-closed-taken c.args.sim c.ask.new.sim c.args.begun c.args.sender.now.budget c.in-Batch.batch c.in-Batch.block c.args.numbered.now c.args.log.now c.ask.new.log c.in-Batch.is c.requires.built c.requires.tries c.in_ok-ask-in-Batch.ensures.asked
+
+pub write-in-Write-requires-clause-room : goal.write-in-Write-requires-clause-room
+write-in-Write-requires-clause-room c = write-closed-room c.in-Write.key c.in-Write.stamp c.in-Write.value c.args.numbered.now c.in-Write.is c.requires.built
+
+pub ask-in-Batch-requires-clause-quiet : goal.ask-in-Batch-requires-clause-quiet
+ask-in-Batch-requires-clause-quiet c = closed-quiet c.in-Batch.batch c.in-Batch.block c.args.numbered.now c.in-Batch.is c.requires.built

@@ -1,4 +1,4 @@
-use Rattle.ds_replay.proofs.Takings.{asked-open-taken, close-taken, count-open, more, one-more, write-open-taken}
+use Rattle.ds_replay.proofs.Takings.{asked-open-taken, close-taken, count-open, more, one-more, open-quiet, write-open-room, write-open-taken}
 use Rattle.ds_replay.proofs.lines.from_open.Goals as goal
 
 pub returns-in_ok-write-in-Write-clause-taken : goal.returns-in_ok-write-in-Write-clause-taken
@@ -18,3 +18,9 @@ returns-in_ok-ask-in-Batch-clause-taken c =
 pub returns-in_ok-note_close-in-Close-clause-taken : goal.returns-in_ok-note_close-in-Close-clause-taken
 returns-in_ok-note_close-in-Close-clause-taken c =
     close-taken c.args.sim c.note_close.new.sim c.args.txn c.args.begun c.args.numbered.now c.args.log.now c.note_close.new.log c.in-Close.is c.in_ok-note_close-in-Close.ensures.world c.in_ok-note_close-in-Close.ensures.logged
+
+pub write-in-Write-requires-clause-room : goal.write-in-Write-requires-clause-room
+write-in-Write-requires-clause-room c = write-open-room c.args.txn.stamp.0 c.in-Write.key c.in-Write.stamp c.in-Write.value c.args.numbered.now c.in-Write.is c.requires.built
+
+pub ask-in-Batch-requires-clause-quiet : goal.ask-in-Batch-requires-clause-quiet
+ask-in-Batch-requires-clause-quiet c = open-quiet c.args.txn.stamp.0 c.in-Batch.batch c.in-Batch.block c.args.numbered.now c.in-Batch.is c.requires.built
