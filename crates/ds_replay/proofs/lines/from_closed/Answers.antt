@@ -19,8 +19,8 @@ pub returns-in_ok-ask-in-Batch-clause-taken : goal.returns-in_ok-ask-in-Batch-cl
 returns-in_ok-ask-in-Batch-clause-taken c =
     asked-closed-taken c.args.sim c.ask.new.sim c.args.begun c.args.sender.now.budget c.in-Batch.batch c.in-Batch.block c.args.numbered.now c.args.log.now c.ask.new.log c.in-Batch.is c.requires.built c.requires.tries c.in_ok-ask-in-Batch.ensures.asked
 
-pub write-in-Write-requires-clause-room : goal.write-in-Write-requires-clause-room
-write-in-Write-requires-clause-room c = write-closed-room c.in-Write.key c.in-Write.stamp c.in-Write.value c.args.numbered.now c.in-Write.is c.requires.built
+pub write-requires-clause-room : goal.write-requires-clause-room
+write-requires-clause-room c = write-closed-room c.in-Write.key c.in-Write.stamp c.in-Write.value c.args.numbered.now c.in-Write.is c.requires.built
 
-pub ask-in-Batch-requires-clause-quiet : goal.ask-in-Batch-requires-clause-quiet
-ask-in-Batch-requires-clause-quiet c = closed-quiet c.in-Batch.batch c.in-Batch.block c.args.numbered.now c.in-Batch.is c.requires.built
+pub ask-requires-clause-quiet : goal.ask-requires-clause-quiet
+ask-requires-clause-quiet c = closed-quiet c.in-Batch.batch c.in-Batch.block c.args.numbered.now c.in-Batch.is c.requires.built

@@ -19,8 +19,8 @@ pub returns-in_ok-note_close-in-Close-clause-taken : goal.returns-in_ok-note_clo
 returns-in_ok-note_close-in-Close-clause-taken c =
     close-taken c.args.sim c.note_close.new.sim c.args.txn c.args.begun c.args.numbered.now c.args.log.now c.note_close.new.log c.in-Close.is c.in_ok-note_close-in-Close.ensures.world c.in_ok-note_close-in-Close.ensures.logged
 
-pub write-in-Write-requires-clause-room : goal.write-in-Write-requires-clause-room
-write-in-Write-requires-clause-room c = write-open-room c.args.txn.stamp.0 c.in-Write.key c.in-Write.stamp c.in-Write.value c.args.numbered.now c.in-Write.is c.requires.built
+pub write-requires-clause-room : goal.write-requires-clause-room
+write-requires-clause-room c = write-open-room c.args.txn.stamp.0 c.in-Write.key c.in-Write.stamp c.in-Write.value c.args.numbered.now c.in-Write.is c.requires.built
 
-pub ask-in-Batch-requires-clause-quiet : goal.ask-in-Batch-requires-clause-quiet
-ask-in-Batch-requires-clause-quiet c = open-quiet c.args.txn.stamp.0 c.in-Batch.batch c.in-Batch.block c.args.numbered.now c.in-Batch.is c.requires.built
+pub ask-requires-clause-quiet : goal.ask-requires-clause-quiet
+ask-requires-clause-quiet c = open-quiet c.args.txn.stamp.0 c.in-Batch.batch c.in-Batch.block c.args.numbered.now c.in-Batch.is c.requires.built
