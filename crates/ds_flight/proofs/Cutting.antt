@@ -33,7 +33,7 @@ use Rattle.ds_lease.specs.Turns.{is_among}
 use Rattle.ds_rule.specs.Path.{holds_span}
 use Rattle.ds_rule.specs.Pieces.{IsOneOf}
 use Rattle.ds_flight.specs.Flights.{Flight, AreOfPart, AllAtOnce}
-use Rattle.ds_flight.specs.Goes.{HoldsAll, InOne}
+use Rattle.ds_flight.specs.Goes.{HoldsAll, InOne, WholeHolds}
 use Rattle.ds_flight.specs.Works.{items_of, IsFlying, IsRest, IsTask, Underway, work_left}
 use Rattle.ds_flight.specs.declared.work.Flying.{Flying}
 use Rattle.ds_flight.specs.declared.work.Task.{Task}
@@ -68,11 +68,6 @@ cut-held span (i ∷ is) =
     ] refl
 
 -- ---- where a span must lie in one range, all is cut at once
-
--- the span that must lie in one range holds each item
-abbrev pub WholeHolds : Option Extent → List Item → Type 0
-WholeHolds None items = Unit {0}
-WholeHolds (Some whole) items = HoldsAll whole items
 
 holds-through : (a b : Extent) (items : List Item) → holds_span a b ≡ true → HoldsAll b items → HoldsAll a items
 holds-through a b [] h all = refl
@@ -138,7 +133,7 @@ pub record Routes (f : Flight) (known : List RangeDesc) (desc : RangeDesc) (c : 
   pub one : InOne f.whole desc.span
   pub span : IsSpan desc.span
 
-piece-items : (head : Head) (range : ℕ) (d : Dir) (items : List Item) (p : Piece) → piece_with head range d items ≡ Some p → p ≡ record { head = head; range = range; items = items; dir = d }
+pub piece-items : (head : Head) (range : ℕ) (d : Dir) (items : List Item) (p : Piece) → piece_with head range d items ≡ Some p → p ≡ record { head = head; range = range; items = items; dir = d }
 piece-items head range d [] p h = none_some p h
 piece-items head range d (i ∷ is) p h = sym (some_same _ p h)
 

@@ -2,7 +2,9 @@ pub mod Ahead
 pub mod Caching
 pub mod Cutting
 pub mod Examples
+pub mod Filling
 pub mod Joins
+pub mod Lessening
 pub mod Placing
 pub mod Routing
 pub mod Searching

@@ -14,20 +14,21 @@ use Rattle.ds_cover.specs.Cuts.{cut_items, rest_items, seek_key}
 use Rattle.ds_cover.specs.Measures.{AllSpans}
 use Rattle.ds_cut.specs.Pieces.{rest_part}
 use Rattle.ds_flight.specs.Flights.{Flight}
+use Rattle.ds_flight.specs.Goes.{WholeHolds}
 use Rattle.ds_flight.specs.Places.{CutAt, given_back, placed, rest_if}
 use Rattle.ds_flight.specs.Works.{IsFlying, Underway}
 use Rattle.ds_flight.specs.declared.work.Flying.{Flying}
 use Rattle.ds_flight.specs.declared.work.Task.{Task}
 use Rattle.ds_flight.specs.declared.work.Task.TheVariants.{Rest, Routed}
-use Rattle.ds_flight.proofs.Cutting.{piece-flies, underway-all, underway-cut, Routes, WholeHolds}
+use Rattle.ds_flight.proofs.Cutting.{piece-flies, underway-all, underway-cut, Routes}
 use Rattle.ds_flight.proofs.Working.{flying-rest, underway-instead, underway-permuted}
 
-sought-none : (d : Dir) (items : List Item) → seek_key d items ≡ None → items ≡ []
+pub sought-none : (d : Dir) (items : List Item) → seek_key d items ≡ None → items ≡ []
 sought-none d [] h = refl
 sought-none Forward (i ∷ is) h = some_none _ h
 sought-none Reverse (i ∷ is) h = some_none _ h
 
-sought-some : (d : Dir) (items : List Item) (k : List ℕ) → seek_key d items ≡ Some k → 0 < length items
+pub sought-some : (d : Dir) (items : List Item) (k : List ℕ) → seek_key d items ≡ Some k → 0 < length items
 sought-some Forward [] k h = none_some k h
 sought-some Reverse [] k h = none_some k h
 sought-some Forward (i ∷ is) k h = omega arith

@@ -53,6 +53,11 @@ InOne (Some whole) span = holds_span span whole ≡ true
 abbrev pub HoldsAll : Extent → List Item → Type 0
 HoldsAll span items = list_all (λ i. holds_span span (span_of i.request)) items ≡ true
 
+-- the span that must lie in one range holds each item
+abbrev pub WholeHolds : Option Extent → List Item → Type 0
+WholeHolds None items = Unit {0}
+WholeHolds (Some whole) items = HoldsAll whole items
+
 -- the piece is for the range of this descriptor, and goes to one of its replicas
 pub record GoesBy (whole : Option Extent) (desc : RangeDesc) (node : ℕ) (p : Piece) : Type 0 where
   pub replica : is_replica node desc.nodes ≡ true

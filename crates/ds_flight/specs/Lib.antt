@@ -1,5 +1,6 @@
 pub mod Causes
 pub mod Counting
+pub mod Fills
 pub mod Flights
 pub mod Goes
 pub mod Left

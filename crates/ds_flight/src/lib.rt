@@ -2,6 +2,7 @@
 #![tactic(auto)]
 
 mod cut;
+mod fill;
 mod places;
 mod route;
 mod span;
