@@ -2,6 +2,8 @@ pub mod Examples
 pub mod KeyFacts
 pub mod KeyNumber
 pub mod KeyOrder
+pub mod ListFacts
+pub mod NextKeys
 pub mod OrderedFacts
 pub mod SmallFacts
 pub mod TestFacts

@@ -3,6 +3,7 @@ use Rattle.std.proofs.Common.{◌≡◌, ℕ, Bool, true, false, not, cond, List
 use Rattle.std.specs.List.{filter}
 use Rattle.ds_base.specs.Order.{holds, after}
 use Rattle.ds_base.specs.Ordered.{key_eq, AllOver, Ascends, at_key, between}
+use Rattle.ds_base.proofs.KeyFacts.{own_span}
 use Rattle.ds_base.proofs.OrderedFacts.{eq_same, at-none, same_list, ascends-between, at_key-between}
 use Rattle.ds_base.specs.declared.value.Value.{Value}
 use Rattle.ds_base.specs.declared.value.Stamp.{Stamp}
@@ -20,7 +21,6 @@ use Rattle.ds_cell.specs.Content.{Content, no_content}
 use Rattle.ds_cell.specs.Seen.{own, held, seen, newest, under, value_seen, unless_written, newest_from, too_old}
 use Rattle.ds_cell.specs.Deed.{deed, decide, guarded, look_of}
 use Rattle.ds_cell.specs.Ask.{Cells, key_of, Asked, Failed, Gave, one_more, ask_each, ask, content_of, content_at}
-use Rattle.ds_cell.specs.LawProofs.{own_span}
 use Rattle.ds_cell.specs.Kinds.{judge_nothing, judge_read, judge_delete_range, gone_of, nothing, gone}
 use Rattle.ds_cell.specs.Replies.{Bits, with_row, rows_of, with_gone, gone_keys, body_of}
 use Rattle.ds_cell.specs.Requests.{deed_of, SameAnswer, KeysLaw}

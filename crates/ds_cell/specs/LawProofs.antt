@@ -1,11 +1,11 @@
 -- What the laws of a kind need, proved once for all kinds. It stands here since the laws of the trait `Acts` cite it.
-use Rattle.std.proofs.Common.{◌≡◌, ℕ, ◌≤◌, zero, suc, Bool, true, false, not, cond, ◌&&◌, List, [], ◌∷◌, ◌++◌, take, drop, Option, Some, None, refl, sym, ap, ◌∙◌, subst, arith, ◌==◌, eq-eqb, nat_le, leb-true, is_some}
+use Rattle.std.proofs.Common.{◌≡◌, ℕ, ◌≤◌, zero, suc, Bool, true, false, cond, ◌&&◌, List, [], ◌∷◌, ◌++◌, take, drop, Option, Some, None, refl, sym, ap, ◌∙◌, subst, arith, ◌==◌, eq-eqb, nat_le, leb-true, is_some}
 use Rattle.std.specs.List.{find, insert}
 use Rattle.std.specs.Option.{option_or}
 use Rattle.std.proofs.lemmas.List.Folds.{find-append}
-use Rattle.ds_base.specs.Order.{key_lt, key_le, holds, after}
+use Rattle.ds_base.specs.Order.{key_le, holds, after}
 use Rattle.ds_base.specs.Ordered.{Ascends, between}
-use Rattle.ds_base.proofs.KeyOrder.{key_le-not_lt, key_lt-irrefl, below-after}
+use Rattle.ds_base.proofs.KeyFacts.{own_span}
 use Rattle.ds_base.proofs.OrderedFacts.{cut}
 use Rattle.ds_base.specs.declared.value.Value.{Value}
 use Rattle.ds_base.specs.declared.value.Stamp.{Stamp}
@@ -45,12 +45,6 @@ ask_each-append d (p ∷ ps) ys =
 pub join_all : (d : Content → Verdict) (s m e : List ℕ) (cells : Cells) → Ascends key_of cells → key_le s m ≡ true → key_le m e ≡ true → ask d s e cells ≡ joined (ask d s m cells) (ask d m e cells)
 join_all d s m e cells asc sm me =
     ap (ask_each d) (cut key_of s m e cells asc sm me) ∙ ask_each-append d (between key_of s m cells) (between key_of m e cells)
-
--- one key
-
-pub own_span : (k : List ℕ) → holds k (after k) k ≡ true
-own_span k =
-    ap (λ t. t && key_lt k (after k)) (key_le-not_lt k k ∙ ap not (key_lt-irrefl k)) ∙ below-after k
 
 -- extent
 

@@ -4,7 +4,8 @@ use Rattle.std.specs.Prelude.{◌≡◌, ℕ, ◌≤◌, ◌<◌, Bool, true, fa
 use Rattle.ds_base.specs.Order.{key_le, holds, after}
 use Rattle.ds_base.specs.Ordered.{Ascends}
 use Rattle.ds_base.specs.declared.value.Value.{Value}
-use Rattle.ds_kind.specs.Reach.{Reach, At, Over, extent_of}
+use Rattle.ds_kind.specs.CutReach.{cut_reach}
+use Rattle.ds_kind.specs.Reach.{Reach, Over, extent_of}
 use Rattle.ds_kind.specs.declared.flags.Flags.{Flags}
 use Rattle.ds_kind.specs.declared.reply.Body.{Body}
 use Rattle.ds_cell.specs.declared.entry.At.{At as Who}
@@ -46,11 +47,6 @@ abbrev pub PointLaw : {A : Type 0} → (A → Who → Content → Verdict) → (
 PointLaw d body reach cut ask a =
     (at : Who) (k : List ℕ) (c : Content) → Within (reach a) k
     → ask (cut k (after k) a) at ((k, c) ∷ []) ≡ respond (body a) (one_more k (d a at c) (Gave [] []))
-
--- where a cut of it acts: a point has no other part
-abbrev pub cut_reach : List ℕ → List ℕ → Reach → Reach
-cut_reach s e (At k) = At k
-cut_reach s e (Over f t) = Over s e
 
 -- a cut request does the same at each key, and makes its reply in the same way
 abbrev pub CutLaw : {A : Type 0} → (A → Who → Content → Verdict) → (A → Bits → Body) → (A → Reach) → Cuts A → A → Type 0

@@ -3,6 +3,7 @@ use Rattle.std.proofs.Common.{◌≡◌, ℕ, true, false, List, [], ◌∷◌, 
 use Rattle.std.proofs.lemmas.List.{reverse-append}
 use Rattle.ds_base.specs.Order.{holds, key_le, after}
 use Rattle.ds_base.specs.Ordered.{Ascends, key_eq}
+use Rattle.ds_base.proofs.KeyFacts.{own_span}
 use Rattle.ds_base.proofs.KeyOrder.{point-holds}
 use Rattle.ds_base.proofs.OrderedFacts.{eq_itself}
 use Rattle.ds_base.specs.declared.value.Value.{Value}
@@ -27,7 +28,7 @@ use Rattle.ds_cell.specs.Ask.{Cells, key_of, Asked, Failed, Gave, one_more, join
 use Rattle.ds_cell.specs.Responses.{Response, Refused, Replied, respond, join_responses, NamesIn, RespondsIn, NoWrites}
 use Rattle.ds_cell.specs.Store.{write_all}
 use Rattle.ds_cell.specs.Laws.{Within, KeyRepeats, Repeats, IsLater, JoinLaw, PointLaw, CutLaw, RepeatLaw, ReadsLaw, StaysLaw, FlagLaw, Lawful}
-use Rattle.ds_cell.specs.LawProofs.{join_all, repeat_all, flags_all, stands_at, WroteNothing, guarded-keep, own_span}
+use Rattle.ds_cell.specs.LawProofs.{join_all, repeat_all, flags_all, stands_at, WroteNothing, guarded-keep}
 use Rattle.ds_cell.specs.BodyProofs.{bodies_join}
 use Rattle.ds_cell.specs.KeyProofs.{by_key, told, tell, quiet, same_answer, rows_told, keys_told, quiet_read, quiet_nothing, quiet_delete}
 use Rattle.ds_cell.specs.RepeatProofs.{told-again}

@@ -56,7 +56,8 @@ pub fn read_all<S: Source>(alloc: Global, source: &mut S) -> Result<Vec<u8>, Rea
     ensures few { IfOk result (λ v. length v.items ≤ LIMIT) }
     ensures counts { OnOk result (S.faults source.new ≡ S.faults source.old) }
     ensures fault { IsErrOf result ReadError.Fault → Rose (S.faults source.old) (S.faults source.new) }
-    ensures too_long { IsErrOf result ReadError.TooLong → TookOneMore LIMIT (S.left source.old) (S.left source.new) × (S.faults source.new ≡ S.faults source.old) }
+    ensures too_long { IsErrOf result ReadError.TooLong → TookOneMore LIMIT (S.left source.old) (S.left source.new) }
+    ensures too_long_counts { IsErrOf result ReadError.TooLong → S.faults source.new ≡ S.faults source.old }
     ensures memory { IsErrOf result (ReadError.Memory alloc_error) → S.faults source.new ≡ S.faults source.old }
     ensures lost { OnErr result ((bytes : List ℕ) × Consumes (S.left source.old) (S.left source.new) bytes) }
 {
