@@ -90,7 +90,7 @@ over_in : (e : Extent) (n : ℕ) (c : Option Stamp) (k : List ℕ) (cells : Cell
 over_in e n c k [] all = tt
 over_in e n c k (p ∷ ps) all = (subst (λ z. key_lt k z ≡ true) (sym (one_key e n c p)) all.0, over_in e n c k ps all.1)
 
-ascends_in : (e : Extent) (n : ℕ) (c : Option Stamp) (cells : Cells) → Ascends key_of cells → Ascends key_of (settle_in e n c cells)
+pub ascends_in : (e : Extent) (n : ℕ) (c : Option Stamp) (cells : Cells) → Ascends key_of cells → Ascends key_of (settle_in e n c cells)
 ascends_in e n c [] asc = tt
 ascends_in e n c (p ∷ ps) asc = (subst (λ z. AllOver key_of z (settle_in e n c ps)) (sym (one_key e n c p)) (over_in e n c p.0 ps asc.0), ascends_in e n c ps asc.1)
 

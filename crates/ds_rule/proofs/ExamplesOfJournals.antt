@@ -19,10 +19,10 @@ use Rattle.ds_rule.specs.declared.event.Timed.{Timed}
 use Rattle.ds_rule.specs.declared.journal.JournalStep.{JournalStep}
 use Rattle.ds_rule.specs.declared.journal.JournalStep.TheVariants.{Look, Send}
 use Rattle.ds_rule.specs.declared.event.Event.TheVariants.{Copy, LoseReply, LoseRequest}
-use Rattle.ds_rule.specs.Blocks.{BlockPlays, copies_at, passage_at}
+use Rattle.ds_rule.specs.Blocks.{BlockPlays, copies_at, never_fall, passage_at, woven}
 use Rattle.ds_rule.specs.Clauses.{Stands, Steps, Stays}
 use Rattle.ds_rule.specs.Deliver.{deliver_world}
-use Rattle.ds_rule.specs.Journal.{Moved, Did, Does, Runs, accepted, steps_of, moves_of, BothWays, RequestLost, ReplyLost, DoesSo}
+use Rattle.ds_rule.specs.Journal.{Happening, Moved, Did, Does, Runs, accepted, steps_of, moves_of, BothWays, RequestLost, ReplyLost, DoesSo}
 use Rattle.ds_rule.specs.Moves.{IsMove, moved, counted}
 use Rattle.ds_rule.specs.Pieces.{IsCut, IsOneOf, PieceOf}
 use Rattle.ds_rule.specs.World.{World, cell_of, look_rows}
@@ -243,10 +243,37 @@ none_of_them_is_left_out : BlockPlays (asked_at 20 (get key_a ∷ [])) [] 1 (at_
 unfolding at_step
 none_of_them_is_left_out h = differs h (λ w. w.count == 0) refl refl
 
+-- ---- events among steps
+
+an_event_stands_before_its_step : woven 1 before_step_2 (look ∷ get_gave 5 ∷ []) ≡ Did look ∷ Moved write_5 ∷ Did (get_gave 5) ∷ []
+unfolding before_step_2 at_step
+an_event_stands_before_its_step = refl
+
+and_at_the_end_without_that_step : woven 1 before_step_2 (look ∷ []) ≡ Did look ∷ Moved write_5 ∷ []
+unfolding before_step_2 at_step
+and_at_the_end_without_that_step = refl
+
+abbrev begins_with_a_step : List Happening → Bool
+begins_with_a_step [] = false
+begins_with_a_step (Did s ∷ hs) = true
+begins_with_a_step (Moved e ∷ hs) = false
+
+it_doesnt_stand_before_step_1 : woven 1 before_step_2 (look ∷ []) ≡ Moved write_5 ∷ Did look ∷ [] → ⊥
+unfolding before_step_2 at_step
+it_doesnt_stand_before_step_1 h = differs h begins_with_a_step refl refl
+
+events_that_fall_are_told : never_fall 0 (at_step 2 write_5 ∷ at_step 1 write_5 ∷ []) ≡ false
+unfolding at_step
+events_that_fall_are_told = refl
+
+two_before_one_step_dont_fall : never_fall 0 (at_step 2 write_5 ∷ at_step 2 write_5 ∷ []) ≡ true
+unfolding at_step
+two_before_one_step_dont_fall = refl
+
 -- ---- what a call adds to what a wire stands for
 
 abbrev pub wire : Stands
-wire = record { world = world; past = []; floor = 10; refused = 0; lost = 0; ahead = [] }
+wire = record { world = world; past = []; floor = 10; refused = 0; lost = 0; ahead = []; block = [] }
 
 a_call_adds_its_step : Steps wire (record wire { past = Did look ∷ [] }) look
 a_call_adds_its_step = record {
@@ -256,6 +283,7 @@ a_call_adds_its_step = record {
   runs = (world, (BothWays, ((refl, refl), refl)), refl);
   floor = refl;
   ahead = refl;
+  block = refl;
   refused = omega arith;
   lost = omega arith;
   refuses = λ h. absurd h;
@@ -281,6 +309,10 @@ a_loss_is_counted h = never_rose (h.loses tt)
 no_steps : (es : List Event) → length (steps_of (map Moved es)) ≡ 0
 no_steps [] = refl
 no_steps (e ∷ es) = no_steps es
+
+a_call_keeps_the_block_s_events : Steps wire (record wire { past = Did look ∷ []; block = before_step_2 }) look → ⊥
+unfolding before_step_2
+a_call_keeps_the_block_s_events h = differs h.block (λ ts. length ts == 1) refl refl
 
 a_call_that_wants_memory_makes_no_step : Stays wire (record wire { past = Did look ∷ [] }) → ⊥
 a_call_that_wants_memory_makes_no_step h = differs (ap (λ hs. length (steps_of hs)) h.grown ∙ no_steps h.moves) (λ n. n == 1) refl refl

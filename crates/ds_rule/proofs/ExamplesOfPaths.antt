@@ -114,6 +114,7 @@ a_lookup_and_a_get_are_a_path = record {
   grown = refl;
   runs = (world, (BothWays, ((refl, refl), refl)), (world, (BothWays, (refl, refl)), refl));
   floor = refl;
+  block = refl;
   gives = refl;
 }
 

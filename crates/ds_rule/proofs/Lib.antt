@@ -1,3 +1,4 @@
+pub mod Calls
 pub mod Delivered
 pub mod Eachs
 pub mod Examples
@@ -16,8 +17,11 @@ pub mod Numbered
 pub mod OldSender
 pub mod Passing
 pub mod Puts
+pub mod Resumes
 pub mod Routes
 pub mod Service
 pub mod Short
+pub mod Taken
 pub mod Tiling
+pub mod Weaving
 pub mod Writes

@@ -1,10 +1,11 @@
 -- A request of which a limit lets only so much be taken stays in its range.
-use Rattle.std.proofs.Common.{◌≡◌, ℕ, zero, suc, Bool, true, false, not, cond, List, [], ◌∷◌, map, Option, Some, None, refl, ap, ◌∙◌, ◌⊎◌, inl, inr}
+use Rattle.std.proofs.Common.{◌≡◌, ℕ, zero, suc, Bool, true, false, cond, List, [], ◌∷◌, map, Option, Some, None, refl, ◌⊎◌, inl, inr}
 use Rattle.std.specs.List.{filter}
-use Rattle.ds_base.specs.Order.{Extent, after, holds, key_cmp, key_le, key_lt}
-use Rattle.ds_base.proofs.KeyOrder.{after-above}
+use Rattle.ds_base.specs.Order.{Extent, after, holds, key_le}
+use Rattle.ds_base.proofs.KeyFacts.{own_span}
+use Rattle.ds_base.proofs.NextKeys.{next_le}
 use Rattle.ds_base.proofs.OrderedFacts.{le_trans}
-use Rattle.ds_base.proofs.SmallFacts.{and_both, and_first, and_second, not_greater}
+use Rattle.ds_base.proofs.SmallFacts.{and_both, and_first, and_second}
 use Rattle.ds_kind.specs.Bodies.{goes_down}
 use Rattle.ds_kind.specs.Reach.{Reach, At as Point, Over, extent_of}
 use Rattle.ds_kind.specs.Request.{cut_to, reach_of, span_of}
@@ -14,7 +15,6 @@ use Rattle.ds_kind.specs.declared.request.Request.{Request}
 use Rattle.ds_kind.specs.declared.request.Request.TheVariants.{Get, Scan, ReverseScan, Put, ConditionalPut, InitPut, Increment, Delete, DeleteRange, EndTxn, QueryIntent, ResolveIntent, ResolveIntentRange, AdminSplit, AdminTransferLease}
 use Rattle.ds_cell.specs.declared.entry.At.{At}
 use Rattle.ds_cell.specs.Ask.{AllIn, Cell, Cells, key_of, places}
-use Rattle.ds_cell.specs.LawProofs.{own_span}
 use Rattle.ds_rule.specs.Asking.{Made, ask_item, at_of}
 use Rattle.ds_rule.specs.Deliver.{holds_item}
 use Rattle.ds_rule.specs.Limited.{ask_left, ask_up_to, held_off, in_turn, item_in, last_taken, part_to, taken_keys, with_rest}
@@ -48,15 +48,12 @@ cut-lies e (ResolveIntentRange a) h = h
 cut-lies e (AdminSplit a) h = lies-itself (span_of (AdminSplit a))
 cut-lies e (AdminTransferLease a) h = lies-itself (span_of (AdminTransferLease a))
 
-next_le : (a b : List ℕ) → key_lt a b ≡ true → key_le (after a) b ≡ true
-next_le a b h = not_greater (key_cmp (after a) b) (after-above a b ∙ ap not h)
-
 part-lies : (down : Bool) (e : Extent) (k : List ℕ) → holds e.start e.end k ≡ true → LiesIn (part_to down e k) e
 part-lies false e k h = (le_itself e.start, next_le k e.end (and_second (key_le e.start k) _ h))
 part-lies true e k h = (and_first _ _ h, le_itself e.end)
 
 -- a key at which one was taken is one of the request's
-abbrev IsIn : Extent → List ℕ → Type 0
+abbrev pub IsIn : Extent → List ℕ → Type 0
 IsIn e k = holds e.start e.end k ≡ true
 
 filtered-in : (e : Extent) (f : Cell → Bool) (ps : Cells) → AllIn key_of e.start e.end ps → Each (IsIn e) (map key_of (filter f ps))
@@ -75,7 +72,7 @@ of-turn : {X : Type 0} (down : Bool) (x : X) (xs : List X) → IsOneOf x (in_tur
 of-turn false x xs h = h
 of-turn true x xs h = of-reverse x xs h
 
-taken-in : (r : Request) (at : At) (cells : Cells) (n : ℕ) (k : List ℕ) → last_taken n (taken_keys r at cells) ≡ Some k → IsIn (span_of r) k
+pub taken-in : (r : Request) (at : At) (cells : Cells) (n : ℕ) (k : List ℕ) → last_taken n (taken_keys r at cells) ≡ Some k → IsIn (span_of r) k
 taken-in r at cells n k h =
     each-of (IsIn (span_of r)) k _ (filtered-in (span_of r) _ (places (reach_of r) cells) (places-in (reach_of r) cells))
     (of-turn (goes_down r) k _ (of-get k (taken_keys r at cells) n h))

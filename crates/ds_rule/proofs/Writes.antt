@@ -3,6 +3,7 @@ use Rattle.std.proofs.Common.{◌≡◌, ℕ, true, false, cond, List, [], ◌�
 use Rattle.ds_base.specs.Order.{key_lt, key_le, holds, after}
 use Rattle.ds_base.specs.Ordered.{between}
 use Rattle.ds_base.specs.declared.value.Value.{Value}
+use Rattle.ds_base.proofs.KeyFacts.{own_span}
 use Rattle.ds_base.proofs.SmallFacts.{and_both, and_first, and_second}
 use Rattle.ds_base.proofs.OrderedFacts.{le_trans, lt_le_trans}
 use Rattle.ds_kind.specs.Reach.{Reach, At as Point, Over, extent_of}
@@ -16,7 +17,6 @@ use Rattle.ds_cell.specs.declared.verdict.Bit.{Bit}
 use Rattle.ds_cell.specs.declared.verdict.ActFault.{ActFault}
 use Rattle.ds_cell.specs.Content.{Content}
 use Rattle.ds_cell.specs.Ask.{AllIn, Cells, key_of, content_at, Asked, Failed, Gave, one_more, ask_each, ask_at}
-use Rattle.ds_cell.specs.LawProofs.{own_span}
 use Rattle.ds_cell.specs.Requests.{deed_of, ask_request}
 use Rattle.ds_rule.specs.World.{Range, start_of, end_of, holds_key}
 use Rattle.ds_rule.specs.Deliver.{holds_item}

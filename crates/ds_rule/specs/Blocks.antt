@@ -1,11 +1,11 @@
 -- The block of a batch: its steps, and what happens beside them.
-use Rattle.std.specs.Prelude.{◌≡◌, ℕ, ◌+◌, Bool, true, false, ◌&&◌, ◌==◌, List, [], ◌∷◌, ◌++◌, filter, find, nat_le, Option, Some, None, if◌then◌else◌}
+use Rattle.std.specs.Prelude.{◌≡◌, ℕ, ◌+◌, Bool, true, false, ◌&&◌, ◌==◌, List, [], ◌∷◌, ◌++◌, length, map, filter, find, nat_le, Option, Some, None, if◌then◌else◌}
 use Rattle.ds_rule.specs.declared.event.Event.{Event}
 use Rattle.ds_rule.specs.declared.event.Event.TheVariants.{LoseRequest, LoseReply, Copy}
 use Rattle.ds_rule.specs.declared.event.Timed.{Timed}
 use Rattle.ds_rule.specs.declared.journal.JournalStep.{JournalStep}
 use Rattle.ds_rule.specs.Asking.{Asking}
-use Rattle.ds_rule.specs.Journal.{Passage, BothWays, RequestLost, ReplyLost, Accepted, accepted_by, IsAnswered, step_world}
+use Rattle.ds_rule.specs.Journal.{Happening, Moved, Did, Passage, BothWays, RequestLost, ReplyLost, Accepted, accepted_by, IsAnswered, step_world}
 use Rattle.ds_rule.specs.Moves.{moved}
 use Rattle.ds_rule.specs.Sending.{StepOf, left_of}
 use Rattle.ds_rule.specs.World.{World}
@@ -17,10 +17,40 @@ due n ts = filter (λ t. nat_le t.at n) ts
 abbrev pub later : ℕ → List Timed → List Timed
 later n ts = filter (λ t. nat_le (n + 1) t.at) ts
 
+-- the steps of the events never fall; `last` is the one before
+abbrev pub never_fall : ℕ → List Timed → Bool
+never_fall last [] = true
+never_fall last (t ∷ ts) = nat_le last t.at && never_fall t.at ts
+
 -- the world after these events, in order
 abbrev pub all_moved : World → List Timed → World
 all_moved w [] = w
 all_moved w (t ∷ ts) = all_moved (moved w t.event) ts
+
+-- these events, in order
+abbrev pub all_made : List Timed → List Happening
+all_made ts = map (λ t. Moved t.event) ts
+
+-- what happens where the block has these events and these are its steps from step n on: before each step the events that are
+-- due, and at the end those that are left
+abbrev pub woven : ℕ → List Timed → List JournalStep → List Happening
+woven n ts [] = all_made ts
+woven n ts (s ∷ ss) = all_made (due n ts) ++ Did s ∷ woven (n + 1) (later n ts) ss
+
+-- what happened up to the last step
+abbrev pub before_step : Happening → List Happening → List Happening
+before_step h [] = []
+before_step h (x ∷ xs) = h ∷ x ∷ xs
+
+abbrev pub up_to_last_step : List Happening → List Happening
+up_to_last_step [] = []
+up_to_last_step (Moved e ∷ hs) = before_step (Moved e) (up_to_last_step hs)
+up_to_last_step (Did s ∷ hs) = Did s ∷ up_to_last_step hs
+
+-- no event with this step number or a greater one was due before one of these steps, the first of which has the number n
+abbrev pub least_from : ℕ → List JournalStep → ℕ
+least_from n [] = 0
+least_from n (s ∷ ss) = n + length (s ∷ ss)
 
 -- ---- what names a step
 

@@ -10,13 +10,15 @@ use Rattle.ds_rule.specs.declared.answer.Answer.TheVariants.{Done, Failed, Refus
 use Rattle.ds_rule.specs.declared.journal.JournalStep.{JournalStep}
 use Rattle.ds_rule.specs.declared.journal.JournalStep.TheVariants.{Look, Send}
 use Rattle.ds_rule.specs.declared.event.Event.{Event}
+use Rattle.ds_rule.specs.declared.event.Timed.{Timed}
 use Rattle.ds_rule.specs.World.{World}
 use Rattle.ds_rule.specs.Journal.{Happening, Moved, Did, Runs}
 use Rattle.ds_rule.specs.Moves.{IsMove}
 use Rattle.ds_rule.specs.Pieces.{Each}
 
 -- what a wire stands for: the world as it is, all that happened so far, the floor that foreign writes stay above,
--- how many sends were refused and answers lost, and the picks still to come
+-- how many sends were refused and answers lost, the picks still to come, and the events of the block, those that were made
+-- and those still to come: a wire's calls leave them as they were given
 pub record Stands : Type 0 where
   pub world : World
   pub past : List Happening
@@ -24,6 +26,7 @@ pub record Stands : Type 0 where
   pub refused : ℕ
   pub lost : ℕ
   pub ahead : List ℕ
+  pub block : List Timed
 
 -- the step's answer is a refusal
 abbrev pub IsRefused : JournalStep → Type 0
@@ -53,6 +56,7 @@ pub record Steps (a b : Stands) (s : JournalStep) : Type 0 where
   pub runs : Runs a.world (and_step moves s) b.world
   pub floor : b.floor ≡ a.floor
   pub ahead : b.ahead ≡ a.ahead
+  pub block : b.block ≡ a.block
   pub refused : a.refused ≤ b.refused
   pub lost : a.lost ≤ b.lost
   pub refuses : IsRefused s → Rose a.refused b.refused
@@ -66,6 +70,7 @@ pub record Stays (a b : Stands) : Type 0 where
   pub runs : Runs a.world (map Moved moves) b.world
   pub floor : b.floor ≡ a.floor
   pub ahead : b.ahead ≡ a.ahead
+  pub block : b.block ≡ a.block
   pub refused : a.refused ≤ b.refused
   pub lost : a.lost ≤ b.lost
 

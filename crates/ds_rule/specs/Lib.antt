@@ -1,3 +1,4 @@
+pub mod Admitting
 pub mod Asking
 pub mod Begin
 pub mod Blocks
@@ -22,4 +23,5 @@ pub mod Shifts
 pub mod StandsFor
 pub mod Steady
 pub mod Turn
+pub mod Whole
 pub mod World

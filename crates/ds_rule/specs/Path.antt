@@ -63,7 +63,7 @@ AreRouted route (Moved e ∷ hs) = AreRouted route hs
 AreRouted route (Did s ∷ hs) = IsRouted route s × AreRouted (route_by s) hs
 
 -- from one state of a wire to a later one: what happened on the way, of which each send is of the batch and has its
--- route; and what was accepted
+-- route; and what was accepted. The floor and the block's events stay
 pub record Path (q : Asking) (a b : Stands) (got : List Accepted) : Type 0 where
   pub added : List Happening
   pub high : Each (IsHigh a.floor) added
@@ -73,4 +73,5 @@ pub record Path (q : Asking) (a b : Stands) (got : List Accepted) : Type 0 where
   pub grown : b.past ≡ a.past ++ added
   pub runs : Runs a.world added b.world
   pub floor : b.floor ≡ a.floor
+  pub block : b.block ≡ a.block
   pub gives : accepted added ≡ got

@@ -1,13 +1,13 @@
 -- Items of which a limit lets only a part be asked.
 use Rattle.std.proofs.Common.{◌≡◌, ℕ, zero, suc, ◌+◌, ◌-◌, ◌<◌, ◌≤◌, Bool, true, false, cond, List, [], ◌∷◌, ◌++◌, map, reverse, Option, Some, None, refl, sym, ap, ◌∙◌, subst, ◌⊎◌, inl, inr, MatchOption, arith, length}
 use Rattle.std.specs.List.{filter, slice_get}
-use Rattle.std.proofs.lemmas.Grind.{reverse_onto}
 use Rattle.std.proofs.lemmas.List.{length-reverse, reverse-append, map-append}
 use Rattle.std.proofs.lemmas.List.Elements.{filter-append}
 use Rattle.ds_base.specs.Order.{Extent, after, key_lt, key_le, holds}
 use Rattle.ds_base.specs.Ordered.{between}
-use Rattle.ds_base.proofs.KeyFacts.{le_itself}
+use Rattle.ds_base.proofs.KeyFacts.{le_itself, own_span}
 use Rattle.ds_base.proofs.KeyOrder.{key_lt-irrefl, key_le-antisymm, after-tight}
+use Rattle.ds_base.proofs.ListFacts.{last_first}
 use Rattle.ds_base.proofs.OrderedFacts.{le_trans, le_of_not_lt, not_le_of_lt}
 use Rattle.ds_base.proofs.SmallFacts.{and_first, and_second, append_nil, none_some, some_same}
 use Rattle.ds_kind.specs.Asks.{has_room, has_proper_span, is_proper}
@@ -23,7 +23,6 @@ use Rattle.ds_kind.specs.declared.request.Request.TheVariants.{Get, Scan, Revers
 use Rattle.ds_kind.proofs.RequestFacts.{cut_whole}
 use Rattle.ds_cell.specs.declared.entry.At.{At}
 use Rattle.ds_cell.specs.Ask.{Cell, Cells, key_of, content_at, places, Asked, Failed, Gave}
-use Rattle.ds_cell.specs.LawProofs.{own_span}
 use Rattle.ds_cell.specs.Replies.{body_of}
 use Rattle.ds_cell.specs.Requests.{deed_of, ask_request}
 use Rattle.ds_rule.specs.Asking.{Made, Gives, at_of, made_by, ask_item}
@@ -44,9 +43,6 @@ abbrev Room : List ℕ → Type 0
 Room k = has_room k ≡ true
 
 -- cells in turn
-
-reversed-more : {X : Type 0} (x : X) (xs : List X) → reverse (x ∷ xs) ≡ reverse xs ++ x ∷ []
-reversed-more x xs = reverse_onto xs x []
 
 pub turned_last : {X : Type 0} (xs ys : List X) (y : X) → xs ≡ ys ++ y ∷ [] → in_turn true xs ≡ y ∷ in_turn true ys
 turned_last xs ys y is = ap reverse is ∙ reverse-append ys (y ∷ [])
@@ -70,14 +66,14 @@ taking_one r at p xs = taking-append r at (p ∷ []) xs
 one-turned : (r : Request) (at : At) (p : Cell) (ks : List (List ℕ)) → reverse (taking r at (p ∷ []) ++ ks) ≡ reverse ks ++ taking r at (p ∷ [])
 one-turned r at p ks =
     elim (takes (deed_of r at p.1)) as (λ t. reverse (map key_of (cond t (p ∷ []) []) ++ ks) ≡ reverse ks ++ map key_of (cond t (p ∷ []) [])) [
-      | true ↦ reversed-more p.0 ks
+      | true ↦ last_first p.0 ks
       | false ↦ sym (append_nil (reverse ks))
     ]
 
 taking-turned : (r : Request) (at : At) (xs : Cells) → taking r at (reverse xs) ≡ reverse (taking r at xs)
 taking-turned r at [] = refl
 taking-turned r at (p ∷ xs) =
-    ap (taking r at) (reversed-more p xs) ∙ taking-append r at (reverse xs) (p ∷ [])
+    ap (taking r at) (last_first p xs) ∙ taking-append r at (reverse xs) (p ∷ [])
     ∙ ap (λ ks. ks ++ taking r at (p ∷ [])) (taking-turned r at xs)
     ∙ sym (one-turned r at p (taking r at xs))
     ∙ ap reverse (sym (taking_one r at p xs))
@@ -137,7 +133,7 @@ taking_done r at d rest n o so_far none =
 
 each-reverse : (P : List ℕ → Type 0) (ks : List (List ℕ)) → Each P ks → Each P (reverse ks)
 each-reverse P [] h = tt
-each-reverse P (k ∷ ks) h = subst (Each P) (sym (reversed-more k ks)) (each-append P (reverse ks) (k ∷ []) (each-reverse P ks h.1) (h.0, tt))
+each-reverse P (k ∷ ks) h = subst (Each P) (sym (last_first k ks)) (each-append P (reverse ks) (k ∷ []) (each-reverse P ks h.1) (h.0, tt))
 
 each-turned : (P : List ℕ → Type 0) (d : Bool) (ks : List (List ℕ)) → Each P ks → Each P (in_turn d ks)
 each-turned P true ks h = each-reverse P ks h
