@@ -22,6 +22,7 @@ use Rattle.ds_rule.specs.Steady.{has_lease, ids_differ}
 use Rattle.ds_rule.specs.StandsFor.{IsAt, AllUpTo, open_stamp, IsIntentOf, HasRecord, HasRecordOf, IsKnown, status_for, record_for, StandsFor}
 use Rattle.ds_rule.specs.World.{World, Range, end_of, contents, cell_of, Inside, Tiles}
 use Rattle.ds_world.proofs.First.{first-keeps}
+use Rattle.ds_world.proofs.Settled.{ascends-settled, closed-keeps}
 use Rattle.ds_world.proofs.Stretches.{keeps-same}
 use Rattle.ds_law.proofs.Recorded.{known-last}
 use Rattle.ds_rule.proofs.Lasts.{none-last}
@@ -30,7 +31,7 @@ use Rattle.ds_law.proofs.Standing.{rises-last, above-with_last, up-to-last}
 
 -- at first nothing is held
 
-no-contents : (n : ℕ) (rs : List ClusterRange) → contents (ranges_of n rs) ≡ []
+pub no-contents : (n : ℕ) (rs : List ClusterRange) → contents (ranges_of n rs) ≡ []
 no-contents n [] = refl
 no-contents n (r ∷ rs) = no-contents (n + 1) rs
 
@@ -52,18 +53,18 @@ first-stands rs t leased = record {
 
 -- a new transaction's record is the last, and above all
 
-above-one : (n : ℕ) (ts : List TxnRecord) (x : TxnRecord) → AllAbove record_number n ts → n < record_number x → AllAbove record_number n (ts ++ x ∷ [])
+pub above-one : (n : ℕ) (ts : List TxnRecord) (x : TxnRecord) → AllAbove record_number n ts → n < record_number x → AllAbove record_number n (ts ++ x ∷ [])
 above-one n [] x all h = (h, tt)
 above-one n (t ∷ ts) x all h = (all.0, above-one n ts x all.1 h)
 
 less : (a b c : ℕ) → a ≤ b → b < c → a < c
 less a b c h g = omega (arith, h, g)
 
-rises-one : (m : ℕ) (ts : List TxnRecord) (x : TxnRecord) → Rises record_number ts → AllUpTo record_number m ts → m < record_number x → Rises record_number (ts ++ x ∷ [])
+pub rises-one : (m : ℕ) (ts : List TxnRecord) (x : TxnRecord) → Rises record_number ts → AllUpTo record_number m ts → m < record_number x → Rises record_number (ts ++ x ∷ [])
 rises-one m [] x r all h = (tt, tt)
 rises-one m (t ∷ ts) x r all h = (above-one (record_number t) ts x r.0 (less (record_number t) m (record_number x) all.0 h), rises-one m ts x r.1 all.1 h)
 
-up-to-one : (m n : ℕ) (ts : List TxnRecord) (x : TxnRecord) → m ≤ n → AllUpTo record_number m ts → record_number x ≤ n → AllUpTo record_number n (ts ++ x ∷ [])
+pub up-to-one : (m n : ℕ) (ts : List TxnRecord) (x : TxnRecord) → m ≤ n → AllUpTo record_number m ts → record_number x ≤ n → AllUpTo record_number n (ts ++ x ∷ [])
 up-to-one m n [] x low all h = (h, tt)
 up-to-one m n (t ∷ ts) x low all h = (let up : record_number t ≤ m = all.0 in omega (arith, up, low), up-to-one m n ts x low all.1 h)
 
@@ -99,61 +100,20 @@ begin-stands w p t none pending live next st =
       copies = st.copies;
     }
 
--- all intents of a transaction settled, in one range and in all
-
-over-settled : (n : ℕ) (c : Option Stamp) (k : List ℕ) (cells : Cells) → AllOver key_of k cells → AllOver key_of k (settle_cells n c cells)
-over-settled n c k [] all = tt
-over-settled n c k (p ∷ ps) all = (all.0, over-settled n c k ps all.1)
-
-ascends-settled : (n : ℕ) (c : Option Stamp) (cells : Cells) → Ascends key_of cells → Ascends key_of (settle_cells n c cells)
-ascends-settled n c [] asc = tt
-ascends-settled n c (p ∷ ps) asc = (over-settled n c p.0 ps asc.0, ascends-settled n c ps asc.1)
-
-inside-settled : (n : ℕ) (c : Option Stamp) (s e : List ℕ) (cells : Cells) → Inside s e cells → Inside s e (settle_cells n c cells)
-inside-settled n c s e [] all = tt
-inside-settled n c s e (p ∷ ps) all = (all.0, inside-settled n c s e ps all.1)
-
-tiles-settled : (n : ℕ) (c : Option Stamp) (s : List ℕ) (rs : List Range) → Tiles s rs → Tiles s (map (settle_range n c) rs)
-tiles-settled n c s [] t = t
-tiles-settled n c s (r ∷ rs) t = (
-  record {
-    begins = t.0.begins;
-    some = t.0.some;
-    rising = ascends-settled n c r.cells t.0.rising;
-    inside = inside-settled n c s (end_of r) r.cells t.0.inside;
-  },
-  tiles-settled n c (end_of r) rs t.1,
-)
-
-pub settled-infos : (txn : ℕ) (commit : Option Stamp) (rs : List Range) → map (λ r. r.info) (map (settle_range txn commit) rs) ≡ map (λ r. r.info) rs
-settled-infos txn commit [] = refl
-settled-infos txn commit (r ∷ rs) = ap (λ is. r.info ∷ is) (settled-infos txn commit rs)
-
-newest-settled : (ds : List RangeDesc) (n : ℕ) (c : Option Stamp) (rs : List Range) → Each (IsNewest ds) rs → Each (IsNewest ds) (map (settle_range n c) rs)
-newest-settled ds n c [] new = tt
-newest-settled ds n c (r ∷ rs) new = (new.0, newest-settled ds n c rs new.1)
-
-keeps-settled : (n : ℕ) (c : Option Stamp) (w : World) → Keeps w → Keeps (record w { ranges = map (settle_range n c) w.ranges })
-keeps-settled n c w h = record {
-  tiled = tiles-settled n c [] w.ranges h.tiled;
-  newest = newest-settled w.descs n c w.ranges h.newest;
-  rise = h.rise;
-  ids = ap ids_differ (settled-infos n c w.ranges) ∙ h.ids;
-  leases = ap (list_all has_lease) (settled-infos n c w.ranges) ∙ h.leases;
-}
+-- all intents of a transaction settled
 
 settle-append : (n : ℕ) (c : Option Stamp) (xs ys : Cells) → settle_cells n c (xs ++ ys) ≡ settle_cells n c xs ++ settle_cells n c ys
 settle-append n c [] ys = refl
 settle-append n c (x ∷ xs) ys = ap (λ zs. (x.0, settled n c x.1) ∷ zs) (settle-append n c xs ys)
 
-contents-settled : (n : ℕ) (c : Option Stamp) (rs : List Range) → contents (map (settle_range n c) rs) ≡ settle_cells n c (contents rs)
+pub contents-settled : (n : ℕ) (c : Option Stamp) (rs : List Range) → contents (map (settle_range n c) rs) ≡ settle_cells n c (contents rs)
 contents-settled n c [] = refl
 contents-settled n c (r ∷ rs) = ap (λ zs. settle_cells n c r.cells ++ zs) (contents-settled n c rs) ∙ sym (settle-append n c r.cells (contents rs))
 
 nothing-settled : (n : ℕ) (c : Option Stamp) → settled n c no_content ≡ no_content
 nothing-settled n c = elim (0 == n) as (λ b. settled_by c (last_of (cond b no_content.history [])) no_content ≡ no_content) [ true ↦ refl | false ↦ refl ]
 
-content-settled : (n : ℕ) (c : Option Stamp) (k : List ℕ) (cells : Cells) → content_at k (settle_cells n c cells) ≡ settled n c (content_at k cells)
+pub content-settled : (n : ℕ) (c : Option Stamp) (k : List ℕ) (cells : Cells) → content_at k (settle_cells n c cells) ≡ settled n c (content_at k cells)
 content-settled n c k [] = sym (nothing-settled n c)
 content-settled n c k (p ∷ ps) =
     elim (key_eq p.0 k) as (λ t. content_of (cond t (Some (p.0, settled n c p.1)) (at_key key_of k (settle_cells n c ps))) ≡ settled n c (content_of (cond t (Some p) (at_key key_of k ps)))) [
@@ -217,7 +177,7 @@ pub close-stands : (w : World) (p : Store) (t : StoreTxn) → p.txn ≡ Some t �
 close-stands w p t is pending known st =
     let ranges = settles-by w p t is pending known st in
     record {
-      keeps = keeps-same (record w { ranges = map (settle_range t.asker.number None) w.ranges }) (closed w) ranges refl (keeps-settled t.asker.number None w st.keeps);
+      keeps = closed-keeps w st.keeps;
       rising = ascends-settled t.asker.number None p.cells st.rising;
       same = λ k.
           subst (λ c. IsAt 0 c (content_at k (settle_cells t.asker.number None p.cells))) (sym (world-at ranges k))

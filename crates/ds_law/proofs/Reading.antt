@@ -2,6 +2,7 @@
 use Rattle.std.proofs.Common.{◌≡◌, ℕ, ◌<◌, ◌≤◌, true, cond, ◌==◌, List, [], ◌∷◌, ◌++◌, Option, None, refl, sym, ap, ◌∙◌, subst, fold, arith}
 use Rattle.ds_base.specs.Order.{after}
 use Rattle.ds_base.specs.Ordered.{Ascends, at_key, between}
+use Rattle.ds_base.proofs.KeyFacts.{own_span}
 use Rattle.ds_base.proofs.OrderedFacts.{at_key-between}
 use Rattle.ds_base.specs.declared.value.Value.{Value}
 use Rattle.ds_kind.specs.Asks.{is_get_or_scan}
@@ -18,7 +19,7 @@ use Rattle.ds_cell.specs.Content.{Content, AllAbove, stamp_of}
 use Rattle.ds_cell.specs.Seen.{seen, own, held, newest, too_old, value_seen, version_at}
 use Rattle.ds_cell.specs.Change.{made}
 use Rattle.ds_cell.specs.Ask.{Cells, key_of, content_of, content_at, Gave, one_more, ask_each, places}
-use Rattle.ds_cell.specs.LawProofs.{guarded-keep, own_span}
+use Rattle.ds_cell.specs.LawProofs.{guarded-keep}
 use Rattle.ds_cell.specs.Replies.{Bits, body_of}
 use Rattle.ds_cell.specs.Requests.{deed_of, ask_request, SameAnswer}
 use Rattle.ds_cell.specs.KeyProofs.{by_key}

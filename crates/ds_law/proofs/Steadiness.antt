@@ -36,7 +36,7 @@ use Rattle.ds_world.proofs.First.{first-ids, first-leases}
 use Rattle.ds_rule.proofs.Eachs.{of-reverse}
 use Rattle.ds_rule.proofs.Passing.{told}
 use Rattle.ds_law.proofs.Failing.{status_of}
-use Rattle.ds_law.proofs.Lifetime.{settled-infos}
+use Rattle.ds_world.proofs.Settled.{settled-infos}
 use Rattle.ds_rule.specs.Keeping.{Keeps}
 use Rattle.ds_world.proofs.Delivers.{deliver-keeps, deliver-leaves}
 use Rattle.ds_world.proofs.Stretches.{keeps-same}

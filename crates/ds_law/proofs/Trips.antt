@@ -2,8 +2,9 @@
 use Rattle.std.proofs.Common.{◌≡◌, ℕ, ◌+◌, ◌≤◌, true, false, nat_lt, List, [], ◌∷◌, ◌++◌, map, Option, Some, None, inl, inr, refl, sym, ap, ◌∙◌, subst, append_assoc, arith}
 use Rattle.ds_base.specs.declared.value.Dir.{Dir}
 use Rattle.ds_base.specs.declared.value.Dir.TheVariants.{Forward}
-use Rattle.ds_base.specs.Counts.{Rose, last_count}
-use Rattle.ds_base.proofs.SmallFacts.{append_nil, ge_of, lt_of}
+use Rattle.ds_base.specs.Counts.{Rose}
+use Rattle.ds_base.proofs.SmallFacts.{append_nil}
+use Rattle.ds_rule.proofs.Calls.{rose-left, rose-right, runs-append}
 use Rattle.ds_rule.proofs.Eachs.{each-append}
 use Rattle.ds_desc.specs.declared.desc.Info.{Info}
 use Rattle.ds_desc.specs.declared.meta.Looked.TheVariants as Looked
@@ -20,10 +21,6 @@ use Rattle.ds_rule.specs.Moves.{IsMove}
 use Rattle.ds_rule.specs.Path.{AreRouted, GoesTo, IsHigh, IsOf, IsRouted, IsStepOf, LosesOnly, route_by}
 use Rattle.ds_rule.specs.Pieces.{Each, PieceOf}
 use Rattle.ds_rule.specs.World.{World}
-
-pub runs-append : (w m v : World) (xs ys : List Happening) → Runs w xs m → Runs m ys v → Runs w (xs ++ ys) v
-runs-append w m v [] ys r q = subst (λ u. Runs u ys v) r q
-runs-append w m v (x ∷ xs) ys r q = (r.0, r.1, runs-append r.0 m v xs ys r.2 q)
 
 pub accepted-append : (xs ys : List Happening) → accepted (xs ++ ys) ≡ accepted xs ++ accepted ys
 accepted-append [] ys = refl
@@ -42,24 +39,6 @@ lost-append : (xs ys : List Happening) → lost_in (xs ++ ys) ≡ lost_in xs + l
 lost-append [] ys = let h : lost_in ys ≡ 0 + lost_in ys = omega arith in h
 lost-append (Moved e ∷ xs) ys = lost-append xs ys
 lost-append (Did s ∷ xs) ys = ap (λ n. losses_of s + n) (lost-append xs ys) ∙ plus-assoc (losses_of s) (lost_in xs) (lost_in ys)
-
--- losses rose over a longer way where they rose over a part of it
-
-rose-left : (a b c : ℕ) → Rose a b → b ≤ c → Rose a c
-rose-left a b c (inl h) le = inl (omega (arith, h, le))
-rose-left a b c (inr h) le =
-    elim (nat_lt a c) as (λ t. nat_lt a c ≡ t → Rose a c) [
-      | true ↦ λ e. inl (lt_of a c e)
-      | false ↦ λ e. let low = ge_of a c e in inr (h.0, let same : c ≡ last_count = omega (arith, low, le, h.0, h.1) in same)
-    ] refl
-
-rose-right : (a b c : ℕ) → a ≤ b → b ≤ c → Rose b c → Rose a c
-rose-right a b c le le' (inl h) = inl (omega (arith, h, le))
-rose-right a b c le le' (inr h) =
-    elim (nat_lt a b) as (λ t. nat_lt a b ≡ t → Rose a c) [
-      | true ↦ λ e. let low = lt_of a b e in inl (omega (arith, low, le'))
-      | false ↦ λ e. let high = ge_of a b e in let same : a ≡ b = omega (arith, high, le) in inr (same ∙ h.0, h.1)
-    ] refl
 
 pub loses-more : (hs : List Happening) (r t : Type 0) → (r → t) → Each (LosesOnly r) hs → Each (LosesOnly t) hs
 loses-more [] r t f all = tt
@@ -127,6 +106,7 @@ record Way (q : Asking) (a b : Stands) (got : List Accepted) (refused lost : ℕ
   grown : b.past ≡ a.past ++ added
   runs : Runs a.world added b.world
   floor : b.floor ≡ a.floor
+  block : b.block ≡ a.block
   gives : accepted added ≡ got
   refusals : refused_in added ≡ refused
   losses : lost_in added ≡ lost
@@ -141,6 +121,7 @@ of-trip q a b got r l t = record {
   grown = t.path.grown;
   runs = t.path.runs;
   floor = t.path.floor;
+  block = t.path.block;
   gives = t.path.gives;
   refusals = t.refusals;
   losses = t.losses;
@@ -149,7 +130,7 @@ of-trip q a b got r l t = record {
 
 to-trip : (q : Asking) (a b : Stands) (got : List Accepted) (r l : ℕ) (w : Way q a b got r l) → AreRouted None w.added → Trip q a b got r l
 to-trip q a b got r l w routed = record {
-  path = record { added = w.added; high = w.high; of = w.of; routed = routed; losses = w.loses; grown = w.grown; runs = w.runs; floor = w.floor; gives = w.gives };
+  path = record { added = w.added; high = w.high; of = w.of; routed = routed; losses = w.loses; grown = w.grown; runs = w.runs; floor = w.floor; block = w.block; gives = w.gives };
   refusals = w.refusals;
   losses = w.losses;
   rises = w.rises;
@@ -164,6 +145,7 @@ way-step q a b s of st = record {
   grown = st.grown;
   runs = st.runs;
   floor = st.floor;
+  block = st.block;
   gives = step-accepted st.moves s;
   refusals = step-refused st.moves s;
   losses = step-lost st.moves s;
@@ -181,6 +163,7 @@ way-then q a b c got more r1 l1 r2 l2 x y = record {
   grown = y.grown ∙ ap (λ hs. hs ++ y.added) x.grown ∙ append_assoc a.past x.added y.added;
   runs = runs-append a.world b.world c.world x.added y.added x.runs y.runs;
   floor = y.floor ∙ x.floor;
+  block = y.block ∙ x.block;
   gives = accepted-append x.added y.added ∙ ap (λ xs. xs ++ accepted y.added) x.gives ∙ ap (λ xs. got ++ xs) y.gives;
   refusals = refused-append x.added y.added ∙ ap (λ n. n + refused_in y.added) x.refusals ∙ ap (λ n. r1 + n) y.refusals;
   losses = lost-append x.added y.added ∙ ap (λ n. n + lost_in y.added) x.losses ∙ ap (λ n. l1 + n) y.losses;
@@ -189,7 +172,7 @@ way-then q a b c got more r1 l1 r2 l2 x y = record {
 
 pub trip-none : (q : Asking) (a : Stands) → Trip q a a [] 0 0
 trip-none q a = record {
-  path = record { added = []; high = tt; of = tt; routed = tt; losses = tt; grown = sym (append_nil a.past); runs = refl; floor = refl; gives = refl };
+  path = record { added = []; high = tt; of = tt; routed = tt; losses = tt; grown = sym (append_nil a.past); runs = refl; floor = refl; block = refl; gives = refl };
   refusals = refl;
   losses = refl;
   rises = omega arith;

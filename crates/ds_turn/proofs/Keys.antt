@@ -3,6 +3,7 @@ use Rattle.std.proofs.Common.{◌≡◌, ℕ, Bool, true, false, cond, List, [],
 use Rattle.ds_base.specs.Order.{key_lt, holds, after}
 use Rattle.ds_base.specs.Ordered.{key_eq, AllOver, Ascends, at_key, between}
 use Rattle.ds_base.specs.declared.value.Value.{Value}
+use Rattle.ds_base.proofs.KeyFacts.{own_span}
 use Rattle.ds_base.proofs.TestFacts.{never, not_both}
 use Rattle.ds_base.proofs.KeyOrder.{point-holds, key_lt-irrefl, key_lt-trans}
 use Rattle.ds_base.proofs.OrderedFacts.{eq_same, eq_itself, at-none, ascends-between, at_key-between}
@@ -23,7 +24,6 @@ use Rattle.ds_cell.specs.Change.{wrote}
 use Rattle.ds_cell.specs.Content.{Content, no_content}
 use Rattle.ds_cell.specs.Deed.{content_after}
 use Rattle.ds_cell.specs.KeyProofs.{quiet}
-use Rattle.ds_cell.specs.LawProofs.{own_span}
 use Rattle.ds_cell.specs.Requests.{deed_of, ask_request}
 use Rattle.ds_cell.specs.Store.{WriteAt, put_cell, write_all, under_number}
 use Rattle.ds_cell.specs.Replies.{body_of}

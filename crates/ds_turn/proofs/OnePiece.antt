@@ -113,7 +113,7 @@ unnamed h (i ∷ is) cells out ws rs q asc e none =
     unnamed h is (write_all (at_of h i.seq.0) r.0 cells) out r.1 r.2 q one.0 r.3 both.1 ∙ one.1
 
 -- so settling where it wrote is settling everywhere
-settles-everywhere : (h : Head) (items : List Item) (cells out : Cells) (ws : List WriteAt) (rs : List Reply) (commit : Option Stamp) (q : List ℕ) → Ascends key_of cells → Ascends key_of out → held 0 (content_at q cells) ≡ [] → ask_all h items cells ≡ Gives out ws rs
+pub settles-everywhere : (h : Head) (items : List Item) (cells out : Cells) (ws : List WriteAt) (rs : List Reply) (commit : Option Stamp) (q : List ℕ) → Ascends key_of cells → Ascends key_of out → held 0 (content_at q cells) ≡ [] → ask_all h items cells ≡ Gives out ws rs
     → content_at q (settle_all 0 commit ws out) ≡ settled 0 commit (content_at q out)
 settles-everywhere h items cells out ws rs commit q asc up clear e =
     settle-at 0 commit ws out q up

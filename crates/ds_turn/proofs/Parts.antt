@@ -54,7 +54,7 @@ after-numbers i n pos (r ∷ rs) low = (now (takes_number r), after-numbers i (n
     not-less true = omega (arith, low)
     not-less false = low
 
-rise-from : (n pos : ℕ) (rs : List Request) → NumbersInOrder (items_from pos rs (numbers_from n rs))
+pub rise-from : (n pos : ℕ) (rs : List Request) → NumbersInOrder (items_from pos rs (numbers_from n rs))
 rise-from n pos [] = tt
 rise-from n pos (r ∷ rs) = (after-numbers (record { pos = pos; seq = record { 0 = next_number n r }; request = r }) (next_number n r) (pos + 1) rs (omega arith), rise-from (next_number n r) (pos + 1) rs)
 

@@ -52,7 +52,7 @@ settles_alike s txn commit c d k by =
     (settles-by s commit (last_of (held txn c)) c d k by)
 
 -- a settling does not see versions above the stamp
-settled-more : (s : ℕ) (commit : Option Stamp) (o : Option Written) (vs : List Version) (e : Content) → CommitsBy s commit → AllAbove stamp_of s vs → e.waiting ≡ []
+pub settled-more : (s : ℕ) (commit : Option Stamp) (o : Option Written) (vs : List Version) (e : Content) → CommitsBy s commit → AllAbove stamp_of s vs → e.waiting ≡ []
     → settled_by commit o (with_versions vs e) ≡ with_versions vs (settled_by commit o e)
 settled-more s commit None vs e by all none = refl
 settled-more s commit (Some w) vs e by all none =

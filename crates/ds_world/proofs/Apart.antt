@@ -10,19 +10,19 @@ use Rattle.ds_world.specs.Laws.{InDifferentRanges}
 use Rattle.ds_world.proofs.Shifted.{lease_descs}
 
 -- the range with the lease, where that can be
-abbrev leased : ℕ → Range → Range
+abbrev pub leased : ℕ → Range → Range
 leased n r = cond (can_lease n r) (with_lease n r) r
 
-leased-holds : (n : ℕ) (q : List ℕ) (r : Range) → holds_key q (leased n r) ≡ holds_key q r
+pub leased-holds : (n : ℕ) (q : List ℕ) (r : Range) → holds_key q (leased n r) ≡ holds_key q r
 leased-holds n q r = elim (can_lease n r) as (λ b. holds_key q (cond b (with_lease n r) r) ≡ holds_key q r) [ true ↦ refl | false ↦ refl ]
 
-abbrev all_leased : List ℕ → ℕ → List Range → List Range
+abbrev pub all_leased : List ℕ → ℕ → List Range → List Range
 all_leased k n rs = (change_at (lease_in n) k rs).ranges
 
-lease-here : (k : List ℕ) (n : ℕ) (r : Range) (rs : List Range) → holds_key k r ≡ true → all_leased k n (r ∷ rs) ≡ leased n r ∷ rs
+pub lease-here : (k : List ℕ) (n : ℕ) (r : Range) (rs : List Range) → holds_key k r ≡ true → all_leased k n (r ∷ rs) ≡ leased n r ∷ rs
 lease-here k n r rs h = ap (λ b. (cond b (lease_in n r rs) (behind r (change_at (lease_in n) k rs))).ranges) h
 
-lease-later : (k : List ℕ) (n : ℕ) (r : Range) (rs : List Range) → holds_key k r ≡ false → all_leased k n (r ∷ rs) ≡ r ∷ all_leased k n rs
+pub lease-later : (k : List ℕ) (n : ℕ) (r : Range) (rs : List Range) → holds_key k r ≡ false → all_leased k n (r ∷ rs) ≡ r ∷ all_leased k n rs
 lease-later k n r rs h = ap (λ b. (cond b (lease_in n r rs) (behind r (change_at (lease_in n) k rs))).ranges) h
 
 -- the first of two keys is in this range, and the second is not

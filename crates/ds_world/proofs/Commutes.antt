@@ -2,6 +2,7 @@
 use Rattle.std.proofs.Common.{◌≡◌, ℕ, ◌+◌, true, false, cond, List, [], ◌∷◌, ◌++◌, Option, Some, None, refl, sym, ap, ◌∙◌, subst}
 use Rattle.std.proofs.lemmas.List.{append_cancel_left}
 use Rattle.ds_base.specs.Ordered.{between}
+use Rattle.ds_base.proofs.ListFacts.{cons_head, cons_tail}
 use Rattle.ds_base.proofs.OrderedFacts.{cut-append, none-from}
 use Rattle.ds_base.proofs.SmallFacts.{append_nil}
 use Rattle.ds_desc.specs.Descs.{back_from, containing, greatest_id}
@@ -21,12 +22,6 @@ use Rattle.ds_world.proofs.Foreign.{foreign-keeps, holding-infos, same-written, 
 use Rattle.ds_world.proofs.Shifted.{lease-keeping, merge-keeping, move-keeping, split-keeping}
 use Rattle.ds_world.proofs.Stretches.{Keeping, infos}
 
-cons-head : {X : Type 0} (x y : X) (xs ys : List X) → x ∷ xs ≡ y ∷ ys → x ≡ y
-cons-head x y xs ys h = cc
-
-cons-tail : {X : Type 0} (x y : X) (xs ys : List X) → x ∷ xs ≡ y ∷ ys → xs ≡ ys
-cons-tail x y xs ys h = cc
-
 -- ---- ranges that tile are told by their descriptors and all that they hold
 
 all-inside : (s e : List ℕ) (cells : List Cell) → Inside s e cells → between key_of s e cells ≡ cells
@@ -45,11 +40,11 @@ same-ranges s [] [] t u is cs = refl
 same-ranges s [] (q ∷ qs) t u is cs = cc
 same-ranges s (r ∷ rs) [] t u is cs = cc
 same-ranges s (r ∷ rs) (q ∷ qs) t u is cs =
-    let info : r.info ≡ q.info = cons-head r.info q.info (infos rs) (infos qs) is in
+    let info : r.info ≡ q.info = cons_head r.info q.info (infos rs) (infos qs) is in
     let ends : end_of r ≡ end_of q = ap (λ i. i.desc.span.end) info in
     let cells : r.cells ≡ q.cells = sym (first-cells s r rs t) ∙ ap (between key_of s (end_of r)) cs ∙ ap (λ e. between key_of s e (contents (q ∷ qs))) ends ∙ first-cells s q qs u in
     let rest : contents rs ≡ contents qs = append_cancel_left r.cells (contents rs) (contents qs) (cs ∙ ap (λ zs. zs ++ contents qs) (sym cells)) in
-    let later : rs ≡ qs = same-ranges (end_of r) rs qs t.1 (subst (λ e. Tiles e qs) (sym ends) u.1) (cons-tail r.info q.info (infos rs) (infos qs) is) rest in
+    let later : rs ≡ qs = same-ranges (end_of r) rs qs t.1 (subst (λ e. Tiles e qs) (sym ends) u.1) (cons_tail r.info q.info (infos rs) (infos qs) is) rest in
     λ i. record { info = info i; cells = cells i } ∷ later i
 
 -- ---- a change that doesn't look at the cells
@@ -69,8 +64,8 @@ change-same f k [] [] blind is = record { infos = refl; made = refl }
 change-same f k [] (q ∷ qs) blind is = cc
 change-same f k (r ∷ rs) [] blind is = cc
 change-same f k (r ∷ rs) (q ∷ qs) blind is =
-    let info : r.info ≡ q.info = cons-head r.info q.info (infos rs) (infos qs) is in
-    let rest : infos rs ≡ infos qs = cons-tail r.info q.info (infos rs) (infos qs) is in
+    let info : r.info ≡ q.info = cons_head r.info q.info (infos rs) (infos qs) is in
+    let rest : infos rs ≡ infos qs = cons_tail r.info q.info (infos rs) (infos qs) is in
     subst (λ i. SameChange (change_at f k (r ∷ rs)) (change_at f k (record { info = i; cells = q.cells } ∷ qs))) info
     (elim (holds_key k r) as (λ b. SameChange (cond b (f r rs) (behind r (change_at f k rs))) (cond b (f (record r { cells = q.cells }) qs) (behind (record r { cells = q.cells }) (change_at f k qs)))) [
       | true ↦ blind r q.cells rs qs rest
@@ -104,8 +99,8 @@ merge-blind r cells [] [] is = record { infos = refl; made = refl }
 merge-blind r cells [] (q ∷ qs) is = cc
 merge-blind r cells (p ∷ ps) [] is = cc
 merge-blind r cells (p ∷ ps) (q ∷ qs) is =
-    let info : p.info ≡ q.info = cons-head p.info q.info (infos ps) (infos qs) is in
-    let rest : infos ps ≡ infos qs = cons-tail p.info q.info (infos ps) (infos qs) is in
+    let info : p.info ≡ q.info = cons_head p.info q.info (infos ps) (infos qs) is in
+    let rest : infos ps ≡ infos qs = cons_tail p.info q.info (infos ps) (infos qs) is in
     subst (λ i. SameChange (merge_in r (p ∷ ps)) (merge_in (record r { cells = cells }) (record { info = i; cells = q.cells } ∷ qs))) info
     (elim (can_join r p) as (λ b. SameChange (cond b (record { ranges = joined r p ∷ ps; made = (joined r p).info.desc ∷ [] }) (unchanged (r ∷ p ∷ ps))) (cond b (record { ranges = joined (record r { cells = cells }) (record p { cells = q.cells }) ∷ qs; made = (joined r p).info.desc ∷ [] }) (unchanged (record r { cells = cells } ∷ record p { cells = q.cells } ∷ qs)))) [
       | true ↦ record { infos = ap (λ zs. (joined r p).info ∷ zs) rest; made = refl }

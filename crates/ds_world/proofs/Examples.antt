@@ -5,7 +5,7 @@ use Rattle.ds_rule.specs.declared.event.Event.TheVariants.{Abort, Move}
 use Rattle.ds_rule.specs.Moves.{counted, moved}
 use Rattle.ds_rule.specs.Shifts.{foreign_at, lease_to, split_at, stale_by}
 use Rattle.ds_rule.specs.World.{Range}
-use Rattle.ds_world.specs.Laws.{HasReplicas, InDifferentRanges, IsNoEvent, KeepsAll, LeavesContents, LeavesDescs, LeavesRest}
+use Rattle.ds_world.specs.Laws.{GoesBeside, HasReplicas, InDifferentRanges, IsNoEvent, KeepsAll, LeavesContents, LeavesDescs, LeavesRest}
 use Rattle.ds_rule.proofs.Examples.{key_a, key_b, key_m, world, version, differs, never}
 use Rattle.ds_rule.proofs.ExamplesOfMoves.{two_ranges_are_kept}
 
@@ -17,6 +17,10 @@ second_has_two (c ∷ d ∷ cs) = length (d.1).versions == 2
 abbrev first_lease : List Range → ℕ
 first_lease [] = 0
 first_lease (r ∷ rs) = r.info.lease.number
+
+abbrev second_lease : List Range → ℕ
+second_lease [] = 0
+second_lease (r ∷ rs) = first_lease rs
 
 -- ---- what is left
 
@@ -53,3 +57,10 @@ these_are_not h = differs h.0 (λ b. b) refl refl
 
 two_leases_of_one_range_dont_commute : lease_to key_a 3 (lease_to key_b 1 world) ≡ lease_to key_b 1 (lease_to key_a 3 world) → ⊥
 two_leases_of_one_range_dont_commute h = differs h (λ w. first_lease w.ranges == 2) refl refl
+
+a_lease_and_a_split_of_two_ranges_commute : lease_to key_a 3 (split_at key_m world) ≡ split_at key_m (lease_to key_a 3 world)
+a_lease_and_a_split_of_two_ranges_commute = refl
+
+-- before the split the lease reaches both parts, and after it the one with its key alone
+no_lease_beside_a_split_of_its_range : GoesBeside (lease_to key_a 3) (split_at key_b) → ⊥
+no_lease_beside_a_split_of_its_range h = differs (h world) (λ w. second_lease w.ranges == 1) refl refl

@@ -7,8 +7,11 @@ pub mod Examples
 pub mod First
 pub mod Foreign
 pub mod Leases
+pub mod Locals
 pub mod Merges
 pub mod Newest
+pub mod Runs
+pub mod Settled
 pub mod Shifted
 pub mod Splits
 pub mod Stretches

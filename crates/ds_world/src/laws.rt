@@ -2,7 +2,7 @@
 ghost use Rattle.ds_cell.specs.declared.entry.Version.{Version};
 ghost use Rattle.std.specs.Prelude.{ℕ, List};
 ghost use Rattle.ds_cell.specs.Store.{Asker};
-ghost use Rattle.ds_rule.specs.Close.{with_begin};
+ghost use Rattle.ds_rule.specs.Close.{closed, with_begin};
 ghost use Rattle.ds_rule.specs.Deliver.{deliver_world};
 ghost use Rattle.ds_rule.specs.Moves.{abort_last, moved};
 ghost use Rattle.ds_rule.specs.Shifts.{split_at, merge_at, lease_to, move_to, stale_by, foreign_at};
@@ -50,11 +50,20 @@ pub fn record_laws()
     ensures abort { KeepsAll abort_last }
 {}
 
+/// Does nothing: its clauses are the laws of the end of the open transaction. It keeps what every world
+/// keeps, and makes no descriptor.
+pub fn close_laws()
+    ensures keeps { KeepsAll closed }
+    ensures descs { LeavesDescs closed }
+{}
+
 /// Does nothing: its clauses are the laws of two events beside each other, of which one is a lease of
-/// the key's range to the node. A lease of another range, and an old descriptor of any, lead to the
-/// same world before it and after it.
+/// the key's range to the node. A lease, a split or a move of another range, and an old descriptor of
+/// any, lead to the same world before it and after it.
 pub fn beside_laws(key: &Key, node: u8)
     ensures leases { (q : List ℕ) (n : ℕ) → GoesBesideApart key.now q (lease_to key.now node) (lease_to q n) }
+    ensures splits { (q : List ℕ) → GoesBesideApart key.now q (lease_to key.now node) (split_at q) }
+    ensures moves { (q ns : List ℕ) → GoesBesideApart key.now q (lease_to key.now node) (move_to q ns) }
     ensures stale { (q : List ℕ) (back : ℕ) → GoesBeside (lease_to key.now node) (stale_by q back) }
 {
     let _ = key;
