@@ -1,0 +1,11 @@
+pub mod Covering
+pub mod InTurn
+pub mod Laws
+pub mod Means
+pub mod Midway
+pub mod Parting
+pub mod Ready
+pub mod Send
+pub mod Serving
+pub mod Shows
+pub mod Told
