@@ -1,22 +1,27 @@
 -- The ranges tile the keys after a transaction's intents are settled, wherever that stopped.
-use Rattle.std.proofs.Common.{◌≡◌, ℕ, zero, suc, ◌+◌, ◌<◌, ◌≤◌, true, List, [], ◌∷◌, map, length, get_or, Some, refl, sym, ap, ◌∙◌, subst, arith}
+use Rattle.std.proofs.Common.{◌≡◌, ℕ, zero, suc, ◌+◌, ◌<◌, ◌≤◌, true, List, [], ◌∷◌, map, length, get_or, Option, Some, refl, sym, ap, ◌∙◌, subst, arith}
 use Rattle.std.specs.List.{list_all, slice_get}
 use Rattle.std.proofs.Math.ListN.{set}
 use Rattle.std.proofs.lemmas.Option.{get_or_from_slice_get}
+use Rattle.ds_base.proofs.SmallFacts.{some_same}
 use Rattle.ds_base.specs.Order.{key_lt, holds}
+use Rattle.ds_base.specs.declared.value.Stamp.{Stamp}
 use Rattle.ds_base.specs.Ordered.{AllOver, Ascends}
 use Rattle.ds_cell.specs.Ask.{Cells, key_of}
 use Rattle.ds_desc.specs.declared.desc.Info.{Info}
 use Rattle.ds_desc.specs.declared.desc.RangeDesc.{RangeDesc}
 use Rattle.ds_desc.specs.Descs.{containing}
 use Rattle.ds_cell.specs.Seen.{last_of}
-use Rattle.ds_rule.specs.Keeping.{IsNewest, Keeps}
+use Rattle.ds_range.specs.Resolves.{PartlyAs, settle_cell}
+use Rattle.ds_range.proofs.Resolving.{settled_again}
+use Rattle.ds_rule.specs.Close.{settle_range}
+use Rattle.ds_rule.specs.Keeping.{IsNewest}
 use Rattle.ds_rule.specs.Pieces.{Each}
 use Rattle.ds_rule.specs.Steady.{has_lease, ids_differ}
 use Rattle.ds_rule.specs.World.{Range, end_of, Inside, Fits, Tiles}
 use Rattle.ds_world.proofs.Stretches.{infos}
-use Rattle.ds_ranges.specs.Layout.{laid, layout, own_descs}
-use Rattle.ds_ranges.specs.Sound.{IsSound, bare}
+use Rattle.ds_ranges.specs.Layout.{own_descs}
+use Rattle.ds_ranges.specs.Sound.{IsSound}
 use Rattle.ds_ranges.proofs.Sounds.{sound-same}
 use Rattle.ds_ranges.specs.Alike.{Alike, AllAlike}
 
@@ -130,6 +135,18 @@ mapped_whole f (suc n) (x ∷ xs) low = ap (λ zs. f x ∷ zs) (mapped_whole f n
 pub mapped_done : (f : Range → Range) (n : ℕ) (xs now : List Range) → now ≡ mapped_to f n xs → length now ≤ n → now ≡ map f xs
 mapped_done f n xs now so_far low =
     so_far ∙ mapped_whole f n xs (subst (λ m. m ≤ n) (mapped_long f n xs) (subst (λ zs. length zs ≤ n) so_far low))
+
+-- ---- settled again
+
+-- a range of which a part was settled
+pub settle-same : (txn : ℕ) (commit : Option Stamp) (r q : Range) → q.info ≡ r.info → PartlyAs (settle_cell txn commit) r.cells q.cells → settle_range txn commit q ≡ settle_range txn commit r
+settle-same txn commit r q info partly = let cells = settled_again txn commit r.cells q.cells partly in λ i. record { info = info i; cells = cells i }
+
+-- one of them changed to another that comes to the same
+pub map-set : (f : Range → Range) (xs : List Range) (i : ℕ) (old y : Range) → i < length xs → slice_get xs i ≡ Some old → f y ≡ f old → map f (set xs i y) ≡ map f xs
+map-set f [] i old y low at same = absurd (omega (arith, low))
+map-set f (x ∷ xs) zero old y low at same = ap (λ z. z ∷ map f xs) (same ∙ ap f (sym (some_same x old at)))
+map-set f (x ∷ xs) (suc i) old y low at same = ap (λ zs. f x ∷ zs) (map-set f xs i old y (omega (arith, low)) at same)
 
 -- ---- what they keep
 

@@ -1,13 +1,15 @@
 -- Worked examples of the definitions, some that hold and some that must not.
-use Rattle.std.proofs.Common.{◌≡◌, ℕ, ◌<◌, true, false, List, [], ◌∷◌, None, refl, sym, ap, subst, length, get_or, arith}
+use Rattle.std.proofs.Common.{◌≡◌, ℕ, ◌<◌, ◌==◌, true, false, List, [], ◌∷◌, Some, None, refl, sym, ap, subst, length, get_or, arith}
 use Rattle.ds_base.specs.Order.{bound, key_le}
 use Rattle.ds_base.proofs.SmallFacts.{some_same}
+use Rattle.ds_base.proofs.TestFacts.{differs}
 use Rattle.ds_desc.specs.declared.desc.RangeDesc.{RangeDesc}
 use Rattle.ds_rule.specs.Shifts.{lease_to, merge_at, split_at}
 use Rattle.ds_rule.specs.World.{Range, end_of, holds_key}
 use Rattle.ds_ranges.specs.Layout.{Became, Layout, layout, own_descs}
 use Rattle.ds_ranges.specs.Places.{IsFirst, IsFirstOf, IsPoint}
-use Rattle.ds_ranges.specs.Sound.{IsNoted, bare, noted_desc}
+use Rattle.ds_ranges.specs.Slots.{held}
+use Rattle.ds_ranges.specs.Sound.{PlaceIsNoted, bare, noted_desc}
 
 -- a range of nodes 1 and 2 with its lease at 1, by its id, span and generation
 abbrev range : ℕ → List ℕ → List ℕ → ℕ → Range
@@ -31,6 +33,14 @@ both = low ∷ high ∷ []
 
 abbrev first : Layout
 first = layout both (own_descs both)
+
+-- ---- what lies in a slot
+
+a_slot_is_its_range : held (Some low) ≡ low
+a_slot_is_its_range = refl
+
+not_the_next_one : held (Some low) ≡ high → ⊥
+not_the_next_one h = differs h (λ r. r.info.desc.id == 1) refl refl
 
 -- ---- the first that passes
 
@@ -61,13 +71,13 @@ not_none h = let past : true ≡ false = h.1 0 low (omega arith) (omega arith) i
 
 -- ---- what is noted
 
-the_second_is_noted : IsNoted (0 ∷ 0 ∷ 1 ∷ []) (own_descs both) high.info.desc
+the_second_is_noted : PlaceIsNoted (0 ∷ 0 ∷ 1 ∷ []) (own_descs both) high.info.desc
 the_second_is_noted = refl
 
 nothing_is_noted_of_the_id_3 : noted_desc 3 (0 ∷ 0 ∷ 1 ∷ []) (own_descs both) ≡ None
 nothing_is_noted_of_the_id_3 = refl
 
-not_another_place : IsNoted (0 ∷ 1 ∷ 1 ∷ []) (own_descs both) low.info.desc → ⊥
+not_another_place : PlaceIsNoted (0 ∷ 1 ∷ 1 ∷ []) (own_descs both) low.info.desc → ⊥
 not_another_place h =
     let same : high.info.desc ≡ low.info.desc = some_same high.info.desc low.info.desc h in
     let ids : ◌≡◌ {A = ℕ} 2 1 = ap (λ (d : RangeDesc). d.id) same in

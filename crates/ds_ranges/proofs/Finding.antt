@@ -14,7 +14,7 @@ use Rattle.ds_rule.proofs.Routes.{le_itself}
 use Rattle.ds_world.proofs.Newest.{own-start}
 use Rattle.ds_ranges.specs.Layout.{own_descs}
 use Rattle.ds_ranges.specs.Places.{IsFirst, IsPoint}
-use Rattle.ds_ranges.specs.Sound.{IsNoted, noted_desc}
+use Rattle.ds_ranges.specs.Sound.{PlaceIsNoted, noted_desc}
 
 -- ---- the first that passes
 
@@ -113,7 +113,7 @@ module _ {X : Type 0} (p q : X → Bool) where
   first-both (x ∷ xs) (suc i) y over first at h = (fails (p x) (q x) over.0 first.0, first-both xs i y over.1 first.1 at h)
 
 -- who has the id starts where the descriptor does that is noted of it
-pub with-id : (places : List ℕ) (ds : List RangeDesc) (id : ℕ) (d : RangeDesc) (s : List ℕ) (rs : List Range) → noted_desc id places ds ≡ Some d → Tiles s rs → Each (IsNoted places ds) (own_descs rs) → Each (λ r. has_id id r ≡ true → holds_key d.span.start r ≡ true) rs
+pub with-id : (places : List ℕ) (ds : List RangeDesc) (id : ℕ) (d : RangeDesc) (s : List ℕ) (rs : List Range) → noted_desc id places ds ≡ Some d → Tiles s rs → Each (PlaceIsNoted places ds) (own_descs rs) → Each (λ r. has_id id r ≡ true → holds_key d.span.start r ≡ true) rs
 with-id places ds id d s [] at t own = tt
 with-id places ds id d s (r ∷ rs) at t own = (
   λ h.
@@ -123,7 +123,7 @@ with-id places ds id d s (r ∷ rs) at t own = (
   with-id places ds id d (end_of r) rs at t.1 own.1,
 )
 
-pub none-noted : (places : List ℕ) (ds : List RangeDesc) (id : ℕ) (rs : List Range) → None ≡ noted_desc id places ds → Each (IsNoted places ds) (own_descs rs) → Each (λ r. has_id id r ≡ false) rs
+pub none-noted : (places : List ℕ) (ds : List RangeDesc) (id : ℕ) (rs : List Range) → None ≡ noted_desc id places ds → Each (PlaceIsNoted places ds) (own_descs rs) → Each (λ r. has_id id r ≡ false) rs
 none-noted places ds id [] at own = tt
 none-noted places ds id (r ∷ rs) at own = (
   fails false (has_id id r) (λ h. none_some r.info.desc (at ∙ ap (λ n. noted_desc n places ds) (sym (eqb-true _ _ h)) ∙ own.0)) refl,

@@ -1,5 +1,5 @@
 -- A piece served at the range at its place, and undone.
-use Rattle.std.proofs.Common.{◌≡◌, ℕ, zero, suc, ◌<◌, Bool, true, false, cond, List, [], ◌∷◌, Option, Some, None, refl, sym, ap, ◌∙◌, subst, length, get_or, find, arith}
+use Rattle.std.proofs.Common.{◌≡◌, ℕ, zero, suc, ◌<◌, Bool, true, false, cond, List, [], ◌∷◌, Some, None, refl, sym, ap, ◌∙◌, subst, length, get_or, find, arith}
 use Rattle.std.specs.List.{list_all, slice_get}
 use Rattle.std.proofs.Math.ListN.{set}
 use Rattle.ds_base.proofs.SmallFacts.{some_same}
@@ -15,14 +15,13 @@ use Rattle.ds_rule.specs.Asking.{Made, Gives, Fails, finished}
 use Rattle.ds_rule.specs.Deliver.{answer_made, holds_item, with_cells}
 use Rattle.ds_rule.specs.Endings.{records_made}
 use Rattle.ds_serve.specs.Ends.{reopened}
-use Rattle.ds_rule.specs.Keeping.{Keeps}
 use Rattle.ds_rule.specs.Pieces.{Each}
 use Rattle.ds_rule.specs.World.{World, Range, Tiles, has_id, replaced}
 use Rattle.ds_rule.proofs.Delivered.{held_tiles, same_descs}
 use Rattle.ds_world.proofs.Foreign.{keeps-holding}
-use Rattle.ds_ranges.specs.Layout.{Became, laid, layout, own_descs}
+use Rattle.ds_ranges.specs.Layout.{Became, laid, layout}
 use Rattle.ds_ranges.specs.Places.{IsFirst}
-use Rattle.ds_ranges.specs.Serving.{Applies, HoldsItems, ServesPiece, after_piece, answered_at, held_at, held_made, made_of, put_back_at, records_at}
+use Rattle.ds_ranges.specs.Serving.{Applies, HoldsItems, ServesPiece, after_piece, answered_at, held_at, made_of, put_back_at, records_at}
 use Rattle.ds_ranges.specs.Sound.{IsSound, bare}
 use Rattle.ds_ranges.proofs.Finding.{first-found, first-low, none-found}
 use Rattle.ds_ranges.proofs.Sounds.{sound-same}
@@ -55,10 +54,9 @@ first-at p rs i r first at = sym (first-found p rs i first) ∙ at
 
 -- ---- what became of the ranges
 
-made-filled : (p : Piece) (m : Made) (rs items : List Range) (ds : List RangeDesc) (i : ℕ) (r : Range) → IsFirst (has_id p.range) rs i → slice_get rs i ≡ Some r → items ≡ set rs i (filled r (after_made p.head m r.cells)) → Became (held_made p m) (layout rs ds) (layout items ds)
-made-filled p (Fails f) rs items ds i r first at is w = ap (λ zs. record w { ranges = zs; descs = ds }) (is ∙ set-back rs i r at)
-made-filled p (Gives cells ws rs2) rs items ds i r first at is w =
-    ap (λ zs. record w { ranges = zs; descs = ds }) (is ∙ set-first (has_id p.range) (λ z. filled z (finished p.head ws cells)) rs i r first at)
+made-filled : (id : ℕ) (cells : Cells) (rs items : List Range) (ds : List RangeDesc) (i : ℕ) (r : Range) → IsFirst (has_id id) rs i → slice_get rs i ≡ Some r → items ≡ set rs i (filled r cells) → Became (with_cells id cells) (layout rs ds) (layout items ds)
+made-filled id cells rs items ds i r first at is w =
+    ap (λ zs. record w { ranges = zs; descs = ds }) (is ∙ set-first (has_id id) (λ z. filled z cells) rs i r first at)
 
 -- ---- they keep what they keep
 
@@ -119,7 +117,7 @@ applied p ts us rs items ds i e first told serves =
     let is : items ≡ set rs i (filled x.one (after_piece p ts x.one)) = told x.one x.at in
     record {
       answer = ap Some s.answer ∙ sym (ap (answered_at ts p) found);
-      after = subst (λ o. Became (held_at ts p o) (layout rs ds) (layout items ds)) (sym found) (made-filled p (made_of ts p x.one) rs items ds i x.one first x.at is);
+      after = subst (λ o. Became (held_at ts p o) (layout rs ds) (layout items ds)) (sym found) (made-filled p.range (after_piece p ts x.one) rs items ds i x.one first x.at is);
       records = s.records ∙ sym (ap (records_at ts p) found);
       back = ap (λ zs. layout (put_back_at p.range (kept_of e) zs) ds) is ∙ ap (λ zs. layout zs ds) (back-at p.range (kept_of e) rs i x.one (after_piece p ts x.one) first x.at s.back);
       reopens = s.reopens;

@@ -20,7 +20,7 @@ use Rattle.ds_rule.proofs.Eachs.{each-append, each-left, each-right}
 use Rattle.ds_world.proofs.Foreign.{ends-low}
 use Rattle.ds_world.proofs.Stretches.{infos}
 use Rattle.ds_ranges.specs.Layout.{laid, layout, own_descs}
-use Rattle.ds_ranges.specs.Sound.{IsNoted, IsSound, bare, desc_at}
+use Rattle.ds_ranges.specs.Sound.{PlaceIsNoted, IsSound, bare, desc_at}
 use Rattle.ds_ranges.proofs.Finding.{out-low}
 
 -- ---- the list about a place
@@ -73,14 +73,14 @@ set-other (z ∷ xs) (suc i) (suc j) y x other at = set-other xs i j y x (λ e. 
 abbrev StaysBeside : ℕ → List ℕ → List ℕ → Type 0
 StaysBeside id old new = (j v : ℕ) → (j ≡ id → ⊥) → slice_get old j ≡ Some v → slice_get new j ≡ Some v
 
-kept-noted : (id : ℕ) (places new : List ℕ) (ds made : List RangeDesc) (d : RangeDesc) → StaysBeside id places new → (d.id ≡ id → ⊥) → IsNoted places ds d → IsNoted new (ds ++ made) d
+kept-noted : (id : ℕ) (places new : List ℕ) (ds made : List RangeDesc) (d : RangeDesc) → StaysBeside id places new → (d.id ≡ id → ⊥) → PlaceIsNoted places ds d → PlaceIsNoted new (ds ++ made) d
 kept-noted id places new ds made d stays other own =
-    elim (slice_get places d.id) as (λ o. slice_get places d.id ≡ o → desc_at o ds ≡ Some d → IsNoted new (ds ++ made) d) [
+    elim (slice_get places d.id) as (λ o. slice_get places d.id ≡ o → desc_at o ds ≡ Some d → PlaceIsNoted new (ds ++ made) d) [
       | None ↦ λ e h. none_some d h
       | Some v ↦ λ e h. ap (λ o. desc_at o (ds ++ made)) (stays d.id v other e) ∙ append-kept ds made v d h
     ] refl own
 
-kept-each : (id : ℕ) (places new : List ℕ) (ds made : List RangeDesc) (rs : List Range) → StaysBeside id places new → Each (λ r. r.info.desc.id ≡ id → ⊥) rs → Each (IsNoted places ds) (own_descs rs) → Each (IsNoted new (ds ++ made)) (own_descs rs)
+kept-each : (id : ℕ) (places new : List ℕ) (ds made : List RangeDesc) (rs : List Range) → StaysBeside id places new → Each (λ r. r.info.desc.id ≡ id → ⊥) rs → Each (PlaceIsNoted places ds) (own_descs rs) → Each (PlaceIsNoted new (ds ++ made)) (own_descs rs)
 kept-each id places new ds made [] stays others own = tt
 kept-each id places new ds made (r ∷ rs) stays others own =
     (kept-noted id places new ds made r.info.desc stays others.0 own.0, kept-each id places new ds made rs stays others.1 own.1)
@@ -107,7 +107,7 @@ pub record Stands (places : List ℕ) (ds : List RangeDesc) (d : RangeDesc) : Ty
   pub noted : slice_get places d.id ≡ Some place
   pub there : slice_get ds place ≡ Some d
 
-pub stands-noted : (places : List ℕ) (ds : List RangeDesc) (d : RangeDesc) → IsNoted places ds d → Stands places ds d
+pub stands-noted : (places : List ℕ) (ds : List RangeDesc) (d : RangeDesc) → PlaceIsNoted places ds d → Stands places ds d
 stands-noted places ds d own =
     elim (slice_get places d.id) as (λ o. slice_get places d.id ≡ o → desc_at o ds ≡ Some d → Stands places ds d) [
       | None ↦ λ e h. none_some d h
@@ -118,9 +118,9 @@ own-append : (before : List Range) (r : Range) (after : List Range) → own_desc
 own-append before r after = map-append (λ (z : Range). z.info.desc) before (r ∷ after)
 
 -- the range at a place is noted
-pub noted-at : (rs : List Range) (ds : List RangeDesc) (places : List ℕ) (i : ℕ) (r : Range) → Each (IsNoted places ds) (own_descs rs) → slice_get rs i ≡ Some r → IsNoted places ds r.info.desc
+pub noted-at : (rs : List Range) (ds : List RangeDesc) (places : List ℕ) (i : ℕ) (r : Range) → Each (PlaceIsNoted places ds) (own_descs rs) → slice_get rs i ≡ Some r → PlaceIsNoted places ds r.info.desc
 noted-at [] ds places i r own at = cc
-noted-at (q ∷ rs) ds places zero r own at = subst (λ z. IsNoted places ds z.info.desc) (some_same q r at) own.0
+noted-at (q ∷ rs) ds places zero r own at = subst (λ z. PlaceIsNoted places ds z.info.desc) (some_same q r at) own.0
 noted-at (q ∷ rs) ds places (suc i) r own at = noted-at rs ds places i r own.1 at
 
 -- ---- no descriptor reaches past the bound
@@ -139,7 +139,7 @@ low-more ds r after t low k high =
 pub sound-same : (rs items : List Range) (ds : List RangeDesc) (places : List ℕ) → IsSound rs ds places → Keeps (laid (layout items ds) bare) → own_descs items ≡ own_descs rs → IsSound items ds places
 sound-same rs items ds places sound keeps same = record {
   keeps = keeps;
-  own = subst (Each (IsNoted places ds)) (sym same) sound.own;
+  own = subst (Each (PlaceIsNoted places ds)) (sym same) sound.own;
   count = sound.count;
   low = sound.low;
 }
@@ -150,19 +150,19 @@ sound-one before gone rest r y ds places sound same keeps =
     let id = r.info.desc.id in
     let new = set places id (length ds) in
     let apart : Others id before (gone ++ rest) = others before (gone ++ rest) r sound.keeps.ids in
-    let own = subst (Each (IsNoted places ds)) (own-append before r (gone ++ rest)) sound.own in
+    let own = subst (Each (PlaceIsNoted places ds)) (own-append before r (gone ++ rest)) sound.own in
     let stays : StaysBeside id places new = λ j v other at. set-other places id j (length ds) v other at in
-    let mine = each-right (IsNoted places ds) (own_descs before) (r.info.desc ∷ own_descs (gone ++ rest)) own in
+    let mine = each-right (PlaceIsNoted places ds) (own_descs before) (r.info.desc ∷ own_descs (gone ++ rest)) own in
     let place : Stands places ds r.info.desc = stands-noted places ds r.info.desc mine.0 in
     let within : id < length places = slice_get_within places id place.place place.noted in
-    let later = each-right (IsNoted places ds) (own_descs gone) (own_descs rest) (subst (Each (IsNoted places ds)) (map-append (λ (z : Range). z.info.desc) gone rest) mine.1) in
-    let here : IsNoted new (ds ++ y.info.desc ∷ []) y.info.desc =
+    let later = each-right (PlaceIsNoted places ds) (own_descs gone) (own_descs rest) (subst (Each (PlaceIsNoted places ds)) (map-append (λ (z : Range). z.info.desc) gone rest) mine.1) in
+    let here : PlaceIsNoted new (ds ++ y.info.desc ∷ []) y.info.desc =
     ap (λ n. desc_at (slice_get new n) (ds ++ y.info.desc ∷ [])) same ∙ ap (λ o. desc_at o (ds ++ y.info.desc ∷ [])) (set-here places id (length ds) within) ∙ at-end ds y.info.desc [] in
     record {
       keeps = keeps;
-      own = subst (Each (IsNoted new (ds ++ y.info.desc ∷ []))) (sym (own-append before y rest)) (
-          each-append (IsNoted new (ds ++ y.info.desc ∷ [])) (own_descs before) (y.info.desc ∷ own_descs rest)
-          (kept-each id places new ds (y.info.desc ∷ []) before stays apart.ahead (each-left (IsNoted places ds) (own_descs before) (r.info.desc ∷ own_descs (gone ++ rest)) own))
+      own = subst (Each (PlaceIsNoted new (ds ++ y.info.desc ∷ []))) (sym (own-append before y rest)) (
+          each-append (PlaceIsNoted new (ds ++ y.info.desc ∷ [])) (own_descs before) (y.info.desc ∷ own_descs rest)
+          (kept-each id places new ds (y.info.desc ∷ []) before stays apart.ahead (each-left (PlaceIsNoted places ds) (own_descs before) (r.info.desc ∷ own_descs (gone ++ rest)) own))
           (here, kept-each id places new ds (y.info.desc ∷ []) rest stays (each-right (λ z. z.info.desc.id ≡ id → ⊥) gone rest apart.behind) later)
           );
       count = omega (arith, length-set places id (length ds), sound.count, greatest-more ds y.info.desc, within, same);
@@ -177,20 +177,20 @@ sound-two before after r y z ds places sound same next keeps =
     let new = moved ++ (length ds + 1) ∷ [] in
     let made = y.info.desc ∷ z.info.desc ∷ [] in
     let apart : Others id before after = others before after r sound.keeps.ids in
-    let own = subst (Each (IsNoted places ds)) (own-append before r after) sound.own in
+    let own = subst (Each (PlaceIsNoted places ds)) (own-append before r after) sound.own in
     let stays : StaysBeside id places new = λ j v other at. append-kept moved ((length ds + 1) ∷ []) j v (set-other places id j (length ds) v other at) in
-    let mine = each-right (IsNoted places ds) (own_descs before) (r.info.desc ∷ own_descs after) own in
+    let mine = each-right (PlaceIsNoted places ds) (own_descs before) (r.info.desc ∷ own_descs after) own in
     let place : Stands places ds r.info.desc = stands-noted places ds r.info.desc mine.0 in
     let within : id < length places = slice_get_within places id place.place place.noted in
     let long : length moved ≡ length places = length-set places id (length ds) in
-    let left : IsNoted new (ds ++ made) y.info.desc =
+    let left : PlaceIsNoted new (ds ++ made) y.info.desc =
     ap (λ n. desc_at (slice_get new n) (ds ++ made)) same
     ∙ ap (λ o. desc_at o (ds ++ made)) (append-kept moved ((length ds + 1) ∷ []) id (length ds) (set-here places id (length ds) within))
     ∙ at-end ds y.info.desc (z.info.desc ∷ []) in
     let last : z.info.desc.id ≡ length moved = omega (arith, next, long, sound.count) in
     let grown : (ds ++ y.info.desc ∷ []) ++ z.info.desc ∷ [] ≡ ds ++ made = append_assoc ds (y.info.desc ∷ []) (z.info.desc ∷ []) in
     let more : length (ds ++ y.info.desc ∷ []) ≡ length ds + 1 = length_push ds y.info.desc in
-    let right : IsNoted new (ds ++ made) z.info.desc =
+    let right : PlaceIsNoted new (ds ++ made) z.info.desc =
     ap (λ n. desc_at (slice_get new n) (ds ++ made)) last
     ∙ ap (λ o. desc_at o (ds ++ made)) (at-end moved (length ds + 1) [])
     ∙ subst (λ n. slice_get (ds ++ made) n ≡ Some z.info.desc) more (subst (λ zs. slice_get zs (length (ds ++ y.info.desc ∷ [])) ≡ Some z.info.desc) grown (at-end (ds ++ y.info.desc ∷ []) z.info.desc [])) in
@@ -199,9 +199,9 @@ sound-two before after r y z ds places sound same next keeps =
     let tail : Tiles (end_of y) (z ∷ after) = tiles-tail [] before y (z ∷ after) keeps.tiled in
     record {
       keeps = keeps;
-      own = subst (Each (IsNoted new (ds ++ made))) (sym (own-append before y (z ∷ after))) (
-          each-append (IsNoted new (ds ++ made)) (own_descs before) (y.info.desc ∷ z.info.desc ∷ own_descs after)
-          (kept-each id places new ds made before stays apart.ahead (each-left (IsNoted places ds) (own_descs before) (r.info.desc ∷ own_descs after) own))
+      own = subst (Each (PlaceIsNoted new (ds ++ made))) (sym (own-append before y (z ∷ after))) (
+          each-append (PlaceIsNoted new (ds ++ made)) (own_descs before) (y.info.desc ∷ z.info.desc ∷ own_descs after)
+          (kept-each id places new ds made before stays apart.ahead (each-left (PlaceIsNoted places ds) (own_descs before) (r.info.desc ∷ own_descs after) own))
           (left, (right, kept-each id places new ds made after stays apart.behind mine.1))
           );
       count = omega (arith, length_push moved (length ds + 1), long, sound.count, top, within, same, next);

@@ -8,54 +8,23 @@ use Rattle.std.proofs.lemmas.List.FromFn.{length-range_with_len}
 use Rattle.ds_base.specs.Order.{bound, key_le, key_lt}
 use Rattle.ds_base.proofs.OrderedFacts.{le_of_lt, le_of_not_lt, le_trans}
 use Rattle.ds_base.proofs.SmallFacts.{and_first, and_second, some_same}
-use Rattle.ds_desc.specs.Descs.{AllNewer, GenerationsRise, Newer, containing, greatest_id}
+use Rattle.ds_desc.specs.Descs.{containing, greatest_id}
 use Rattle.ds_desc.specs.declared.desc.RangeDesc.{RangeDesc}
 use Rattle.ds_rule.specs.declared.cluster.ClusterRange.{ClusterRange}
-use Rattle.ds_rule.specs.Begin.{is_leased, next_start, range_of, ranges_of, rises, tiles}
-use Rattle.ds_rule.specs.Keeping.{IsNewest}
+use Rattle.ds_rule.specs.Begin.{first_world, is_leased, next_start, range_of, ranges_of, rises, tiles}
+use Rattle.ds_rule.specs.Keeping.{Keeps}
 use Rattle.ds_rule.specs.Pieces.{Each}
 use Rattle.ds_rule.specs.World.{Range, Tiles, start_of, end_of, holds_key}
 use Rattle.ds_rule.proofs.Routes.{le_itself}
 use Rattle.ds_rule.proofs.Tiling.{rises-tiles}
-use Rattle.ds_world.proofs.First.{first-ids, first-leases}
+use Rattle.ds_world.proofs.First.{first-keeps}
 use Rattle.ds_world.proofs.Foreign.{ends-low}
-use Rattle.ds_world.proofs.Newest.{newest-made, none-before}
 use Rattle.ds_ranges.specs.Layout.{own_descs}
-use Rattle.ds_ranges.specs.Sound.{IsNoted, IsSound, desc_at}
+use Rattle.ds_ranges.specs.Sound.{PlaceIsNoted, IsSound, desc_at}
 use Rattle.ds_ranges.proofs.Finding.{out-low}
 use Rattle.ds_ranges.proofs.Sounds.{at-end}
 
 -- ---- the descriptors of ranges that tile
-
-starts-from : (m s : List ℕ) (rs : List Range) → key_le m s ≡ true → Tiles s rs → Each (λ d. key_le m d.span.start ≡ true) (own_descs rs)
-starts-from m s [] low t = tt
-starts-from m s (r ∷ rs) low t = (
-  subst (λ z. key_le m z ≡ true) (sym t.0.begins) low,
-  starts-from m (end_of r) rs (le_trans m s (end_of r) low (le_of_lt s (end_of r) t.0.some)) t.1,
-)
-
--- no later one contains a key of a range
-later-none : (k : List ℕ) (r : Range) (rs : List Range) → holds_key k r ≡ true → Tiles (end_of r) rs → containing k (own_descs rs) ≡ []
-later-none k r rs h t =
-    none-before k (end_of r) (own_descs rs) (and_second (key_le (start_of r) k) _ h) (starts-from (end_of r) (end_of r) rs (le_itself (end_of r)) t)
-
-tiles-newest : (ds : List RangeDesc) (s : List ℕ) (rs : List Range) → Tiles s rs → Each (IsNewest (ds ++ own_descs rs)) rs
-tiles-newest ds s [] t = tt
-tiles-newest ds s (r ∷ rs) t = (
-  newest-made ds (own_descs (r ∷ rs)) r (λ k h. ap (λ b. cond b (r.info.desc ∷ containing k (own_descs rs)) (containing k (own_descs rs))) h ∙ ap (λ zs. r.info.desc ∷ zs) (later-none k r rs h t.1)),
-  subst (λ zs. Each (IsNewest zs) rs) (append_assoc ds (r.info.desc ∷ []) (own_descs rs)) (tiles-newest (ds ++ r.info.desc ∷ []) (end_of r) rs t.1),
-)
-
-rise-at : (k s : List ℕ) (rs : List Range) → Tiles s rs → Newer (containing k (own_descs rs))
-rise-at k s [] t = tt
-rise-at k s (r ∷ rs) t =
-    elim (holds_key k r) as (λ b. holds_key k r ≡ b → Newer (cond b (r.info.desc ∷ containing k (own_descs rs)) (containing k (own_descs rs)))) [
-      | true ↦ λ h. subst (λ zs. AllNewer r.info.desc.generation zs × Newer zs) (sym (later-none k r rs h t.1)) (tt, tt)
-      | false ↦ λ h. rise-at k (end_of r) rs t.1
-    ] refl
-
-tiles-rise : (s : List ℕ) (rs : List Range) → Tiles s rs → GenerationsRise (own_descs rs)
-tiles-rise s rs t k = rise-at k s rs t
 
 tiles-low : (k s : List ℕ) (rs : List Range) → Tiles s rs → key_lt k bound ≡ false → containing k (own_descs rs) ≡ []
 tiles-low k s [] t high = refl
@@ -85,7 +54,7 @@ in-range a zero i low = absurd (omega (arith, low))
 in-range a (suc n) zero low = let same : a ≡ a + 0 = omega arith in ap Some same
 in-range a (suc n) (suc i) low = let same : a + 1 + i ≡ a + suc i = omega arith in in-range (a + 1) n i (omega (arith, low)) ∙ ap Some same
 
-first-noted : (count : ℕ) (front : List RangeDesc) (id : ℕ) (rs : List ClusterRange) → id ≡ suc (length front) → length front + length rs ≤ count → Each (IsNoted (0 ∷ range_with_len 0 count) (front ++ own_descs (ranges_of id rs))) (own_descs (ranges_of id rs))
+first-noted : (count : ℕ) (front : List RangeDesc) (id : ℕ) (rs : List ClusterRange) → id ≡ suc (length front) → length front + length rs ≤ count → Each (PlaceIsNoted (0 ∷ range_with_len 0 count) (front ++ own_descs (ranges_of id rs))) (own_descs (ranges_of id rs))
 first-noted count front id [] is low = tt
 first-noted count front id (r ∷ rs) is low =
     let d = (range_of id r (next_start rs)).info.desc in
@@ -98,7 +67,7 @@ first-noted count front id (r ∷ rs) is low =
           ∙ ap (λ o. desc_at o (front ++ d ∷ rest)) (in-range 0 count (length front) within)
           ∙ (let same : 0 + length front ≡ length front = omega arith in ap (slice_get (front ++ d ∷ rest)) same)
           ∙ at-end front d rest,
-      subst (λ zs. Each (IsNoted (0 ∷ range_with_len 0 count) zs) rest) (append_assoc front (d ∷ []) rest) (first-noted count (front ++ d ∷ []) (id + 1) rs next room),
+      subst (λ zs. Each (PlaceIsNoted (0 ∷ range_with_len 0 count) zs) rest) (append_assoc front (d ∷ []) rest) (first-noted count (front ++ d ∷ []) (id + 1) rs next room),
     )
 
 first-greatest : (m : ℕ) (rs : List ClusterRange) → max m (greatest_id (own_descs (ranges_of (m + 1) rs))) ≡ m + length rs
@@ -120,15 +89,16 @@ first-tiled rs h =
 first-sound : (rs : List ClusterRange) → tiles rs ≡ true → list_all is_leased rs ≡ true → IsSound (ranges_of 1 rs) (own_descs (ranges_of 1 rs)) (0 ∷ range_with_len 0 (length rs))
 first-sound rs h leased =
     let t : Tiles [] (ranges_of 1 rs) = first-tiled rs h in
+    let first : Keeps (first_world rs) = first-keeps rs t leased in
     let top : max 0 (greatest_id (own_descs (ranges_of 1 rs))) ≡ 0 + length rs = first-greatest 0 rs in
     let long : length (range_with_len 0 (length rs)) ≡ length rs = length-range_with_len 0 (length rs) in
     record {
       keeps = record {
         tiled = t;
-        newest = tiles-newest [] [] (ranges_of 1 rs) t;
-        rise = tiles-rise [] (ranges_of 1 rs) t;
-        ids = first-ids 1 rs;
-        leases = first-leases 1 rs leased;
+        newest = first.newest;
+        rise = first.rise;
+        ids = first.ids;
+        leases = first.leases;
       };
       own = first-noted (length rs) [] 1 rs refl (omega arith);
       count = omega (arith, top, long);

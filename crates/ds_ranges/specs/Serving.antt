@@ -9,7 +9,7 @@ use Rattle.ds_range.specs.declared.piece.Evaluation.{Evaluation}
 use Rattle.ds_rule.specs.declared.answer.Answer.{Answer}
 use Rattle.ds_rule.specs.declared.record.TxnRecord.{TxnRecord}
 use Rattle.ds_cell.specs.Ask.{Cells}
-use Rattle.ds_rule.specs.Asking.{Made, Gives, Fails, finished}
+use Rattle.ds_rule.specs.Asking.{Made}
 use Rattle.ds_rule.specs.Deliver.{answer_made, holds_item, with_cells}
 use Rattle.ds_rule.specs.Endings.{records_made}
 use Rattle.ds_rule.specs.Serve.{serve}
@@ -30,14 +30,10 @@ abbrev pub answered_at : List TxnRecord → Piece → Option Range → Option An
 answered_at ts p None = None
 answered_at ts p (Some r) = Some (answer_made (made_of ts p r))
 
--- the range with its id holds what the piece made
-abbrev pub held_made : Piece → Made → World → World
-held_made p (Fails f) w = w
-held_made p (Gives cells ws rs) w = with_cells p.range (finished p.head ws cells) w
-
+-- the range with its id holds what the piece made, if there is one
 abbrev pub held_at : List TxnRecord → Piece → Option Range → World → World
 held_at ts p None w = w
-held_at ts p (Some r) w = held_made p (made_of ts p r) w
+held_at ts p (Some r) w = with_cells p.range (after_piece p ts r) w
 
 -- the records after its ends
 abbrev pub records_at : List TxnRecord → Piece → Option Range → List TxnRecord

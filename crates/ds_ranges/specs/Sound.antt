@@ -19,8 +19,8 @@ abbrev pub noted_desc : ℕ → List ℕ → List RangeDesc → Option RangeDesc
 noted_desc id places ds = desc_at (slice_get places id) ds
 
 -- under the descriptor's id its own place is noted
-abbrev pub IsNoted : List ℕ → List RangeDesc → RangeDesc → Type 0
-IsNoted places ds d = noted_desc d.id places ds ≡ Some d
+abbrev pub PlaceIsNoted : List ℕ → List RangeDesc → RangeDesc → Type 0
+PlaceIsNoted places ds d = noted_desc d.id places ds ≡ Some d
 
 -- a world without anything
 abbrev pub bare : World
@@ -30,6 +30,6 @@ bare = record { ranges = []; descs = []; armed = []; records = []; copies = []; 
 -- id 0, which none has; and no descriptor contains the bound or a key above it
 pub record IsSound (rs : List Range) (ds : List RangeDesc) (places : List ℕ) : Type 0 where
   pub keeps : Keeps (laid (layout rs ds) bare)
-  pub own : Each (IsNoted places ds) (own_descs rs)
+  pub own : Each (PlaceIsNoted places ds) (own_descs rs)
   pub count : length places ≡ greatest_id ds + 1
   pub low : (k : List ℕ) → key_lt k bound ≡ false → containing k ds ≡ []

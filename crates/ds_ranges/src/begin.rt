@@ -6,6 +6,7 @@ ghost use Rattle.ds_rule.specs.Begin.{is_leased, next_start, range_of, ranges_of
 ghost use Rattle.ds_rule.specs.World.{Tiles};
 ghost use Rattle.ds_ranges.specs.Layout.{own_descs};
 
+use crate::slot::Slot;
 use ds_base::{Copies, Key, Span};
 use ds_desc::{Info, Lease, RangeDesc};
 use ds_lineage::Lineage;
@@ -62,12 +63,7 @@ pub fn are_leased(ranges: &[ClusterRange]) -> bool
 }
 
 /// A range as it begins: generation 1, lease number 1, and nothing in it.
-fn first_range(
-    alloc: Global,
-    id: u32,
-    range: &ClusterRange,
-    end: Key,
-) -> Result<RangeState, AllocError>
+fn first_range(alloc: Global, id: u32, range: &ClusterRange, end: Key) -> Result<Slot, AllocError>
     requires { key_lt range.now.start end ≡ true }
     ensures { IfOk result (λ r. r ≡ range_of id range.now end) }
 {
@@ -84,14 +80,11 @@ fn first_range(
         node: range.lease,
         number: 1,
     };
-    Ok(RangeState::new(alloc, Info { desc, lease }))
+    Slot::new(alloc, RangeState::new(alloc, Info { desc, lease }))
 }
 
 /// The ranges with ids from 1, in order.
-pub(crate) fn first_ranges(
-    alloc: Global,
-    ranges: &[ClusterRange],
-) -> Result<Vec<RangeState>, AllocError>
+pub(crate) fn first_ranges(alloc: Global, ranges: &[ClusterRange]) -> Result<Vec<Slot>, AllocError>
     requires tiled { rises ranges.now ≡ true }
     requires few { length ranges.now < 2 ^ 32 - 1 }
     ensures { IfOk result (λ made. made.items ≡ ranges_of 1 ranges.now) }
@@ -107,7 +100,7 @@ pub(crate) fn first_ranges(
 }
 
 /// The descriptors of ranges that tile the keys, each as one of the first.
-pub(crate) fn first_lineage(alloc: Global, ranges: &[RangeState]) -> Result<Lineage, AllocError>
+pub(crate) fn first_lineage(alloc: Global, ranges: &[Slot]) -> Result<Lineage, AllocError>
     requires { Tiles [] ranges.now }
     ensures { IfOk result (λ l. l ≡ own_descs ranges.now) }
 {

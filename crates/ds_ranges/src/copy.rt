@@ -2,11 +2,11 @@
 ghost use Rattle.std.specs.Prelude.{◌≡◌, IfOk};
 
 use crate::ranges::Ranges;
+use crate::slot::Slot;
 use ds_base::Copies;
-use ds_range::RangeState;
 use std::alloc::{AllocError, Global};
 
-fn copy_ranges(alloc: Global, ranges: &[RangeState]) -> Result<Vec<RangeState>, AllocError>
+fn copy_ranges(alloc: Global, ranges: &[Slot]) -> Result<Vec<Slot>, AllocError>
     ensures { IfOk result (λ made. made.items ≡ ranges.now) }
 {
     let mut made = Vec::with_capacity(alloc, ranges.len())?;

@@ -7,21 +7,21 @@ ghost use Rattle.ds_rule.specs.Shifts.{can_join, can_move, joined, left_part, ri
 ghost use Rattle.ds_rule.specs.World.{Range, end_of, start_of};
 ghost use Rattle.ds_ranges.specs.Sound.{IsSound};
 
+use crate::slot::Slot;
 use ds_base::{Copies, Key, Span};
 use ds_desc::{Nodes, RangeDesc};
 use ds_lineage::Lineage;
-use ds_range::RangeState;
 use std::alloc::{AllocError, Global};
 
 /// The range at the place.
-pub(crate) fn range_at(ranges: &[RangeState], at: usize) -> &RangeState
+pub(crate) fn range_at(ranges: &[Slot], at: usize) -> &Slot
     requires { at < length ranges.now }
     ensures { slice_get ranges.now at ≡ Some result.now }
 {
     &ranges[at]
 }
 
-pub(crate) fn id_of(range: &RangeState) -> u32
+pub(crate) fn id_of(range: &Slot) -> u32
     ensures { result ≡ range.now.info.desc.id }
 {
     range.info().desc.id
@@ -45,12 +45,7 @@ pub(crate) fn note(places: &mut Vec<usize>, id: u32, place: usize)
 }
 
 /// The place of the descriptor of the range at a place.
-pub(crate) fn own_place(
-    ranges: &[RangeState],
-    places: &[usize],
-    lineage: &Lineage,
-    at: usize,
-) -> usize
+pub(crate) fn own_place(ranges: &[Slot], places: &[usize], lineage: &Lineage, at: usize) -> usize
     requires sound { IsSound ranges.now lineage.now places.now }
     requires within { at < length ranges.now }
     ensures { (r : Range) → slice_get ranges.now at ≡ Some r → slice_get places.now r.info.desc.id ≡ Some result }
@@ -83,7 +78,7 @@ fn desc_of(
 }
 
 /// The descriptor of a range that moves to the nodes.
-fn moved_desc(alloc: Global, range: &RangeState, nodes: &Nodes) -> Result<RangeDesc, AllocError>
+fn moved_desc(alloc: Global, range: &Slot, nodes: &Nodes) -> Result<RangeDesc, AllocError>
     requires { range.now.info.desc.generation < 4294967295 }
     ensures { IfOk result (λ d. d ≡ (with_nodes nodes.now range.now).info.desc) }
 {
@@ -97,7 +92,7 @@ fn moved_desc(alloc: Global, range: &RangeState, nodes: &Nodes) -> Result<RangeD
 }
 
 /// The descriptor of the part below the key.
-fn left_desc(alloc: Global, range: &RangeState, key: &Key) -> Result<RangeDesc, AllocError>
+fn left_desc(alloc: Global, range: &Slot, key: &Key) -> Result<RangeDesc, AllocError>
     requires above { key_lt (start_of range.now) key.now ≡ true }
     requires generation { range.now.info.desc.generation < 4294967295 }
     ensures { IfOk result (λ d. d ≡ (left_part key.now range.now).info.desc) }
@@ -114,12 +109,7 @@ fn left_desc(alloc: Global, range: &RangeState, key: &Key) -> Result<RangeDesc, 
 }
 
 /// The descriptor of the part from the key on, under a new id.
-fn right_desc(
-    alloc: Global,
-    range: &RangeState,
-    key: &Key,
-    id: u32,
-) -> Result<RangeDesc, AllocError>
+fn right_desc(alloc: Global, range: &Slot, key: &Key, id: u32) -> Result<RangeDesc, AllocError>
     requires below { key_lt key.now (end_of range.now) ≡ true }
     requires generation { range.now.info.desc.generation < 4294967295 }
     ensures { IfOk result (λ d. d ≡ (right_part id key.now range.now).info.desc) }
@@ -136,11 +126,7 @@ fn right_desc(
 }
 
 /// The descriptor of two neighbours together.
-fn joined_desc(
-    alloc: Global,
-    left: &RangeState,
-    right: &RangeState,
-) -> Result<RangeDesc, AllocError>
+fn joined_desc(alloc: Global, left: &Slot, right: &Slot) -> Result<RangeDesc, AllocError>
     requires span { key_lt (start_of left.now) (end_of right.now) ≡ true }
     requires can { can_join left.now right.now ≡ true }
     ensures { IfOk result (λ d. d ≡ (joined left.now right.now).info.desc) }
@@ -161,7 +147,7 @@ fn joined_desc(
 /// nothing.
 pub(crate) fn follow_at(
     alloc: Global,
-    ranges: &[RangeState],
+    ranges: &[Slot],
     place: usize,
     lineage: &mut Lineage,
     at: usize,
@@ -179,7 +165,7 @@ pub(crate) fn follow_at(
 }
 
 /// The next range behind the place.
-pub(crate) fn next_to(ranges: &[RangeState], at: usize) -> &RangeState
+pub(crate) fn next_to(ranges: &[Slot], at: usize) -> &Slot
     requires { suc at < length ranges.now }
     ensures { slice_get ranges.now (suc at) ≡ Some result.now }
 {
@@ -190,7 +176,7 @@ pub(crate) fn next_to(ranges: &[RangeState], at: usize) -> &RangeState
 /// memory changes nothing.
 pub(crate) fn part_at(
     alloc: Global,
-    ranges: &[RangeState],
+    ranges: &[Slot],
     place: usize,
     lineage: &mut Lineage,
     at: usize,
@@ -216,7 +202,7 @@ pub(crate) fn part_at(
 /// nothing.
 pub(crate) fn join_at(
     alloc: Global,
-    ranges: &[RangeState],
+    ranges: &[Slot],
     places: (usize, usize),
     lineage: &mut Lineage,
     at: usize,

@@ -8,15 +8,15 @@ ghost use Rattle.ds_cell.specs.Store.{put_cell};
 ghost use Rattle.ds_rule.specs.Shifts.{can_join, can_lease, can_move, joined, left_part, right_part, with_lease, with_nodes};
 ghost use Rattle.ds_rule.specs.World.{Fits, Range, end_of, start_of};
 
+use crate::slot::Slot;
 use ds_base::{Key, Stamp, Value};
 use ds_desc::Nodes;
-use ds_range::RangeState;
 use std::alloc::{AllocError, Global};
 
 /// A write of another client at the range at the place. Want of memory leaves all as it was.
 pub(crate) fn write_at(
     alloc: Global,
-    ranges: &mut Vec<RangeState>,
+    ranges: &mut Vec<Slot>,
     at: usize,
     key: &Key,
     stamp: Stamp,
@@ -33,7 +33,7 @@ pub(crate) fn write_at(
 }
 
 /// The range at the place gives its lease to the node, where it can.
-pub(crate) fn lease_at(ranges: &mut Vec<RangeState>, at: usize, node: u8)
+pub(crate) fn lease_at(ranges: &mut Vec<Slot>, at: usize, node: u8)
     requires { at < length (ranges.old).items }
     ensures { (r : Range) → slice_get (ranges.old).items at ≡ Some r → (ranges.new).items ≡ slice_set (ranges.old).items at (cond (can_lease node r) (with_lease node r) r) }
 {
@@ -42,7 +42,7 @@ pub(crate) fn lease_at(ranges: &mut Vec<RangeState>, at: usize, node: u8)
 }
 
 /// The range at the place moves to the nodes.
-pub(crate) fn move_at(ranges: &mut Vec<RangeState>, at: usize, nodes: Nodes)
+pub(crate) fn move_at(ranges: &mut Vec<Slot>, at: usize, nodes: Nodes)
     requires within { at < length (ranges.old).items }
     requires can { (r : Range) → slice_get (ranges.old).items at ≡ Some r → can_move nodes r ≡ true }
     ensures { (r : Range) → slice_get (ranges.old).items at ≡ Some r → (ranges.new).items ≡ slice_set (ranges.old).items at (with_nodes nodes r) }
@@ -52,7 +52,7 @@ pub(crate) fn move_at(ranges: &mut Vec<RangeState>, at: usize, nodes: Nodes)
 }
 
 /// Puts a range in at the place. There is room for it.
-fn put_in(ranges: &mut Vec<RangeState>, at: usize, range: RangeState)
+fn put_in(ranges: &mut Vec<Slot>, at: usize, range: Slot)
     requires room { vec_len ranges.old < vec_capacity ranges.old }
     requires within { at ≤ vec_len ranges.old }
     ensures { (ranges.new).items ≡ insert (ranges.old).items at range }
@@ -63,7 +63,7 @@ fn put_in(ranges: &mut Vec<RangeState>, at: usize, range: RangeState)
 /// Splits the range at the place in two. Want of memory leaves all as it was.
 pub(crate) fn split_at(
     alloc: Global,
-    ranges: &mut Vec<RangeState>,
+    ranges: &mut Vec<Slot>,
     at: usize,
     key: &Key,
     id: u32,
@@ -83,11 +83,7 @@ pub(crate) fn split_at(
 }
 
 /// Merges the range at the place with the next one. Want of memory leaves all as it was.
-pub(crate) fn merge_at(
-    alloc: Global,
-    ranges: &mut Vec<RangeState>,
-    at: usize,
-) -> Result<(), AllocError>
+pub(crate) fn merge_at(alloc: Global, ranges: &mut Vec<Slot>, at: usize) -> Result<(), AllocError>
     requires within { suc at < length (ranges.old).items }
     requires fits { (r : Range) → slice_get (ranges.old).items at ≡ Some r → Fits (start_of r) r }
     requires next { (r s : Range) → slice_get (ranges.old).items at ≡ Some r → slice_get (ranges.old).items (suc at) ≡ Some s → Fits (end_of r) s }

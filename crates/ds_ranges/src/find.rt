@@ -8,13 +8,14 @@ ghost use Rattle.ds_rule.specs.World.{Tiles, end_of, has_id, holds_key, start_of
 ghost use Rattle.ds_ranges.specs.Places.{IsFirstOf, IsPoint};
 ghost use Rattle.ds_ranges.specs.Sound.{IsSound, noted_desc};
 
+use crate::slot::Slot;
 use ds_base::Key;
 use ds_desc::RangeDesc;
 use ds_lineage::Lineage;
 use ds_range::RangeState;
 
 /// How many ranges end at the key or below it: the one that holds the key stands there.
-pub(crate) fn ended_by(ranges: &[RangeState], key: &Key) -> usize
+pub(crate) fn ended_by(ranges: &[Slot], key: &Key) -> usize
     requires { Tiles [] ranges.now }
     ensures within { result ≤ length ranges.now }
     ensures point { IsPoint (λ r. key_le (end_of r) key.now) ranges.now result }
@@ -23,7 +24,7 @@ pub(crate) fn ended_by(ranges: &[RangeState], key: &Key) -> usize
 }
 
 /// How many ranges start below the key: the last of them contains it in reverse.
-pub(crate) fn begun_below(ranges: &[RangeState], key: &Key) -> usize
+pub(crate) fn begun_below(ranges: &[Slot], key: &Key) -> usize
     requires { Tiles [] ranges.now }
     ensures within { result ≤ length ranges.now }
     ensures point { IsPoint (λ r. key_lt (start_of r) key.now) ranges.now result }
@@ -32,7 +33,7 @@ pub(crate) fn begun_below(ranges: &[RangeState], key: &Key) -> usize
 }
 
 /// Where the range that holds the key stands; none does at the bound.
-pub(crate) fn place_of(ranges: &[RangeState], key: &Key) -> Option<usize>
+pub(crate) fn place_of(ranges: &[Slot], key: &Key) -> Option<usize>
     requires { Tiles [] ranges.now }
     ensures place { IsFirstOf (holds_key key.now) ranges.now result }
     ensures within { IfSome result (λ i. i < length ranges.now) }
@@ -41,14 +42,17 @@ pub(crate) fn place_of(ranges: &[RangeState], key: &Key) -> Option<usize>
     if at < ranges.len() { Some(at) } else { None }
 }
 
-fn nth(ranges: &[RangeState], at: usize) -> Option<&RangeState>
+fn nth(ranges: &[Slot], at: usize) -> Option<&RangeState>
     ensures { option_copied result ≡ slice_get ranges.now at }
 {
-    ranges.get(at)
+    match ranges.get(at) {
+        Some(slot) => Some(slot.range()),
+        None => None,
+    }
 }
 
 /// The range that holds the key.
-pub(crate) fn find_key<'a>(ranges: &'a [RangeState], key: &Key) -> Option<&'a RangeState>
+pub(crate) fn find_key<'a>(ranges: &'a [Slot], key: &Key) -> Option<&'a RangeState>
     requires { Tiles [] ranges.now }
     ensures { option_copied result ≡ find (holds_key key.now) ranges.now }
 {
@@ -74,14 +78,14 @@ fn start_of(desc: &RangeDesc) -> &Key
     &desc.span.start
 }
 
-fn has_id(range: &RangeState, id: u32) -> bool
+fn has_id(range: &Slot, id: u32) -> bool
     ensures { result ≡ has_id id range.now }
 {
     range.info().desc.id == id
 }
 
 /// Where the range with the id stands, which holds this key if there is one.
-fn place_from(ranges: &[RangeState], key: &Key, id: u32) -> Option<usize>
+fn place_from(ranges: &[Slot], key: &Key, id: u32) -> Option<usize>
     requires tiled { Tiles [] ranges.now }
     requires over { Each (λ r. has_id id r ≡ true → holds_key key.now r ≡ true) ranges.now }
     ensures place { IsFirstOf (has_id id) ranges.now result }
@@ -101,7 +105,7 @@ fn place_from(ranges: &[RangeState], key: &Key, id: u32) -> Option<usize>
 
 /// Where the range with the id stands.
 pub(crate) fn place_with(
-    ranges: &[RangeState],
+    ranges: &[Slot],
     places: &[usize],
     lineage: &Lineage,
     id: u32,
@@ -118,7 +122,7 @@ pub(crate) fn place_with(
 
 /// The range with the id.
 pub(crate) fn find_id<'a>(
-    ranges: &'a [RangeState],
+    ranges: &'a [Slot],
     places: &[usize],
     lineage: &Lineage,
     id: u32,

@@ -15,6 +15,7 @@ mod rows;
 mod serve;
 mod settle;
 mod shape;
+mod slot;
 #[cfg(test)]
 mod tests;
 mod touched;

@@ -16,6 +16,7 @@ use crate::event::{lease_at, move_at, write_at};
 use crate::find::{find_id, find_key, place_of};
 use crate::rows::{ahead, first_rows};
 use crate::shape::{can_join, can_split, merge_both, note_two, split_both};
+use crate::slot::Slot;
 use ds_base::{Dir, Key, Stamp, Value};
 use ds_desc::{Infos, Nodes, RangeDesc};
 use ds_lineage::Lineage;
@@ -28,7 +29,7 @@ use std::marker::Model;
 /// two lists.
 #[derive(Drop)]
 pub struct Ranges {
-    pub(crate) items: Vec<RangeState>,
+    pub(crate) items: Vec<Slot>,
     // Under each id the place of the range's descriptor in the lineage. No range has the id 0.
     pub(crate) places: Vec<usize>,
     pub(crate) lineage: Lineage,

@@ -5,14 +5,14 @@ ghost use Rattle.ds_desc.specs.Contains.{contains};
 ghost use Rattle.ds_rule.specs.World.{Tiles, from_first, in_order};
 
 use crate::find::{begun_below, ended_by};
+use crate::slot::Slot;
 use ds_base::{Copies, Dir, Key};
 use ds_desc::Infos;
-use ds_range::RangeState;
 use std::alloc::{AllocError, Global};
 
 /// The ranges from the one that contains the key on, in the direction: a part of the list.
 
-pub(crate) fn ahead<'a>(ranges: &'a [RangeState], key: &Key, dir: Dir) -> &'a [RangeState]
+pub(crate) fn ahead<'a>(ranges: &'a [Slot], key: &Key, dir: Dir) -> &'a [Slot]
     requires { Tiles [] ranges.now }
     ensures { in_order dir result.now ≡ from_first (λ r. contains dir key.now r.info.desc.span) (in_order dir ranges.now) }
 {
@@ -25,7 +25,7 @@ pub(crate) fn ahead<'a>(ranges: &'a [RangeState], key: &Key, dir: Dir) -> &'a [R
 
 /// The range at a place of the list, counted from 0 in the direction.
 
-fn nth(ranges: &[RangeState], dir: Dir, i: usize) -> &RangeState
+fn nth(ranges: &[Slot], dir: Dir, i: usize) -> &Slot
     requires { i < length ranges.now }
     ensures { slice_get (in_order dir ranges.now) i ≡ Some result.now }
 {
@@ -38,7 +38,7 @@ fn nth(ranges: &[RangeState], dir: Dir, i: usize) -> &RangeState
 /// The rows of the first ranges in the direction, at most so many.
 pub(crate) fn first_rows(
     alloc: Global,
-    ranges: &[RangeState],
+    ranges: &[Slot],
     dir: Dir,
     most: usize,
 ) -> Result<Infos, AllocError>

@@ -11,8 +11,9 @@ ghost use Rattle.ds_ranges.specs.Serving.{Applies, HoldsItems, ServesPiece, afte
 
 use crate::find::place_with;
 use crate::ranges::Ranges;
+use crate::slot::Slot;
 use ds_kind::Piece;
-use ds_range::{Evaluation, PieceUndo, RangeState};
+use ds_range::{Evaluation, PieceUndo};
 use ds_rule::Records;
 use ds_serve::reopen;
 use std::alloc::{AllocError, Global};
@@ -20,7 +21,7 @@ use std::alloc::{AllocError, Global};
 /// Serves the piece at the range at the place.
 fn apply_at(
     alloc: Global,
-    ranges: &mut Vec<RangeState>,
+    ranges: &mut Vec<Slot>,
     at: usize,
     records: &mut Records,
     piece: &Piece,
@@ -38,7 +39,7 @@ fn apply_at(
 }
 
 /// Puts back what was kept of the range at the place, and the record that was ended.
-fn undo_at(ranges: &mut Vec<RangeState>, at: usize, records: &mut Records, undo: PieceUndo)
+fn undo_at(ranges: &mut Vec<Slot>, at: usize, records: &mut Records, undo: PieceUndo)
     requires { at < length (ranges.old).items }
     ensures ranges { (r : Range) → slice_get (ranges.old).items at ≡ Some r → (ranges.new).items ≡ slice_set (ranges.old).items at (record r { cells = restored undo.kept r.cells }) }
     ensures records { records.new ≡ reopened undo.ended records.old }

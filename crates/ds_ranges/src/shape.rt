@@ -9,13 +9,13 @@ ghost use Rattle.ds_ranges.specs.Places.{IsFirst};
 
 use crate::descs::{join_at, note, part_at};
 use crate::event::{merge_at, split_at};
+use crate::slot::Slot;
 use ds_base::Key;
 use ds_lineage::Lineage;
-use ds_range::RangeState;
 use std::alloc::{AllocError, Global};
 
 /// Whether the range can be split at the key, where `top` is the greatest id so far.
-pub(crate) fn can_split(range: &RangeState, key: &Key, top: u32) -> bool
+pub(crate) fn can_split(range: &Slot, key: &Key, top: u32) -> bool
     ensures { result ≡ can_split top key.now range.now }
 {
     let desc = &range.info().desc;
@@ -23,7 +23,7 @@ pub(crate) fn can_split(range: &RangeState, key: &Key, top: u32) -> bool
 }
 
 /// Whether the two can be merged.
-pub(crate) fn can_join(left: &RangeState, right: &RangeState) -> bool
+pub(crate) fn can_join(left: &Slot, right: &Slot) -> bool
     ensures { result ≡ can_join left.now right.now }
 {
     let generation = left.info().desc.generation;
@@ -44,7 +44,7 @@ pub(crate) fn note_two(places: &mut Vec<usize>, id: u32, first: usize, second: u
 /// all as it was.
 pub(crate) fn split_both(
     alloc: Global,
-    ranges: &mut Vec<RangeState>,
+    ranges: &mut Vec<Slot>,
     lineage: &mut Lineage,
     place: usize,
     at: usize,
@@ -75,7 +75,7 @@ pub(crate) fn split_both(
 /// memory leaves all as it was.
 pub(crate) fn merge_both(
     alloc: Global,
-    ranges: &mut Vec<RangeState>,
+    ranges: &mut Vec<Slot>,
     lineage: &mut Lineage,
     places: (usize, usize),
     at: usize,

@@ -10,10 +10,10 @@ ghost use Rattle.ds_ranges.specs.Touching.{begins_below, ends_above};
 
 use crate::ranges::Ranges;
 use crate::rows::first_rows;
+use crate::slot::Slot;
 use ds_base::{Dir, Key};
 use ds_desc::Infos;
 use ds_kind::{Bounds, Item, Items};
-use ds_range::RangeState;
 use std::alloc::{AllocError, Global};
 
 fn begins_below(item: &Item, key: &Key) -> bool
@@ -42,7 +42,7 @@ fn any_begins_below(items: &Items, key: &Key) -> bool
 }
 
 /// Whether some item ends after the start of the range.
-fn reaches(items: &Items, range: &RangeState) -> bool
+fn reaches(items: &Items, range: &Slot) -> bool
     ensures { result ≡ ends_above items.now (start_of range.now) }
 {
     let start = &range.info().desc.span.start;
@@ -50,14 +50,14 @@ fn reaches(items: &Items, range: &RangeState) -> bool
 }
 
 /// Whether the range ends before any item begins.
-fn ends_before(items: &Items, range: &RangeState) -> bool
+fn ends_before(items: &Items, range: &Slot) -> bool
     ensures { result ≡ not (begins_below items.now (end_of range.now)) }
 {
     !any_begins_below(items, &range.info().desc.span.end)
 }
 
 /// How many ranges end before any item begins.
-fn before(ranges: &[RangeState], items: &Items) -> usize
+fn before(ranges: &[Slot], items: &Items) -> usize
     requires { IsPartitionedBy (λ r. not (begins_below items.now (end_of r))) ranges.now }
     ensures within { result ≤ length ranges.now }
     ensures point { IsPoint (λ r. not (begins_below items.now (end_of r))) ranges.now result }
@@ -66,7 +66,7 @@ fn before(ranges: &[RangeState], items: &Items) -> usize
 }
 
 /// How many ranges start before some item ends.
-fn reached(ranges: &[RangeState], items: &Items) -> usize
+fn reached(ranges: &[Slot], items: &Items) -> usize
     requires { IsPartitionedBy (λ r. ends_above items.now (start_of r)) ranges.now }
     ensures within { result ≤ length ranges.now }
     ensures point { IsPoint (λ r. ends_above items.now (start_of r)) ranges.now result }
@@ -75,7 +75,7 @@ fn reached(ranges: &[RangeState], items: &Items) -> usize
 }
 
 /// The ranges that overlap the least span that holds all items: a part of the list.
-fn touched<'a>(ranges: &'a [RangeState], items: &Items) -> &'a [RangeState]
+fn touched<'a>(ranges: &'a [Slot], items: &Items) -> &'a [Slot]
     requires { Tiles [] ranges.now }
     ensures { result.now ≡ filter (overlaps items.now) ranges.now }
 {

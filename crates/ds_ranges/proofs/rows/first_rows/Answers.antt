@@ -1,4 +1,4 @@
-use Rattle.std.proofs.Common.{◌≡◌, ◌<◌, ◌++◌, ◌∷◌, [], ap, ◌∙◌, length, arith}
+use Rattle.std.proofs.Common.{◌<◌, ◌++◌, ◌∷◌, [], ap, ◌∙◌, length, arith}
 use Rattle.ds_rule.specs.World.{in_order}
 use Rattle.ds_ranges.proofs.RowLists.{ordered-long, row-more}
 use Rattle.ds_ranges.proofs.rows.first_rows.Goals as goal
