@@ -10,10 +10,11 @@ use Rattle.ds_rule.specs.declared.record.RecordStatus.{RecordStatus}
 use Rattle.ds_rule.specs.declared.record.RecordStatus.TheVariants as Status
 use Rattle.ds_rule.specs.declared.record.TxnRecord.{TxnRecord}
 use Rattle.ds_rule.specs.Close.{closed, said_status, settle_by, status_of_last}
-use Rattle.ds_rule.specs.Moves.{aborted, aborted_status, with_last, with_last_after}
+use Rattle.ds_rule.specs.Moves.{abort_last, aborted, aborted_status, with_last, with_last_after}
 use Rattle.ds_rule.specs.Records.{with_status}
 use Rattle.ds_ranges.specs.Layout.{Layout, layout}
-use Rattle.ds_sim.specs.State.{world_of}
+use Rattle.ds_sim.specs.State.{ClosesAgain, stands_for, world_of}
+use Rattle.ds_sim.specs.UnderWay.{UnderWay}
 
 same-after : (f g : TxnRecord → TxnRecord) (t : TxnRecord) (ts : List TxnRecord) → ((x : TxnRecord) → last_of (t ∷ ts) ≡ Some x → f x ≡ g x) → with_last_after f t ts ≡ with_last_after g t ts
 same-after f g t [] same = ap (λ z. z ∷ []) (same t refl)
@@ -60,3 +61,10 @@ ends_staging ts says = ends_other ts Says.Staging (λ e. cc) says
 pub closed_world : (l now : Layout) (armed : List RangeDesc) (records ends : List TxnRecord) (n : ℕ) → now ≡ layout (settle_by (last_of records) l.ranges) l.descs → ends ≡ with_last aborted records → world_of now armed ends n ≡ closed (world_of l armed records n)
 closed_world l now armed records ends n settled are =
     ap (λ z. world_of z armed ends n) settled ∙ ap (λ ts. world_of (layout (settle_by (last_of records) l.ranges) l.descs) armed ts n) are
+
+-- the world after some of its intents were settled
+pub closes-again : (l now : Layout) (armed : List RangeDesc) (records : List TxnRecord) (u : UnderWay) (c : ℕ) (picks : List ℕ) → settle_by (last_of records) now.ranges ≡ settle_by (last_of records) l.ranges → now.descs ≡ l.descs → ClosesAgain (stands_for (world_of l armed records u.count) u c picks) (stands_for (world_of now armed records u.count) u c picks)
+closes-again l now armed records u c picks again descs = record {
+  closes = λ i. record (abort_last (world_of l armed records u.count)) { ranges = again i; descs = descs i };
+  rest = λ i. stands_for (record (world_of l armed records u.count) { ranges = now.ranges; descs = descs i }) u c picks;
+}

@@ -9,6 +9,7 @@ use Rattle.ds_kind.specs.declared.batch.Piece.{Piece}
 use Rattle.ds_kind.specs.declared.reply.Reply.{Reply}
 use Rattle.ds_range.specs.Evaluates.{answer_to}
 use Rattle.ds_range.specs.Keeps.{Kept}
+use Rattle.ds_range.specs.Serves.{after_made}
 use Rattle.ds_range.specs.declared.piece.Evaluation.{Evaluation}
 use Rattle.ds_rule.specs.declared.answer.Answer.{Answer}
 use Rattle.ds_rule.specs.declared.answer.Answer.TheVariants.{Done, Failed, Refused}
@@ -16,10 +17,10 @@ use Rattle.ds_rule.specs.declared.record.TxnRecord.{TxnRecord}
 use Rattle.ds_rule.specs.Asking.{Made, Gives, Fails, finished}
 use Rattle.ds_rule.specs.Deliver.{Stop, answer_at, answer_made, deliver_answer_to, deliver_world_to, served, stop_answer, with_cells, world_at, world_made}
 use Rattle.ds_rule.specs.Endings.{records_made}
-use Rattle.ds_rule.specs.World.{World, Range, Tiles, has_id}
+use Rattle.ds_rule.specs.World.{World, Range, Tiles, has_id, replaced}
 use Rattle.ds_rule.proofs.Service.{held}
 use Rattle.ds_ranges.specs.Layout.{Became, Layout, layout}
-use Rattle.ds_ranges.specs.Serving.{Applies, HoldsItems, answered_at, held_at, held_made, made_of, put_back_at, records_at}
+use Rattle.ds_ranges.specs.Serving.{Applies, HoldsItems, answered_at, held_at, made_of, put_back_at, records_at}
 use Rattle.ds_ranges.specs.Sound.{bare}
 use Rattle.ds_sim.specs.Done.{Delivers, having, shift_all, shifts_in, shifts_of, stops_at}
 use Rattle.ds_sim.proofs.Done.{all-parts, recorded}
@@ -68,13 +69,23 @@ none-at node p l m ts us None found answer after records = record {
 pub not-there : (node : ℕ) (p : Piece) (l m : Layout) (ts us : List TxnRecord) → Applies p ts us l m None → Delivers node p l m ts us (Refused NotFound)
 not-there node p l m ts us a = none-at node p l m ts us (find (has_id p.range) l.ranges) refl a.answer a.after a.records
 
+-- a range given what it holds
+holds-same : (id : ℕ) (rs : List Range) (r : Range) → find (has_id id) rs ≡ Some r → replaced (has_id id) (λ z. record z { cells = r.cells }) rs ≡ rs
+holds-same id [] r found = refl
+holds-same id (q ∷ rs) r found =
+    elim (has_id id q) as (λ b. cond b (Some q) (find (has_id id) rs) ≡ Some r → cond b (record q { cells = r.cells } ∷ rs) (q ∷ replaced (has_id id) (λ z. record z { cells = r.cells }) rs) ≡ q ∷ rs) [
+      | true ↦ λ h. ap (λ z. record q { cells = z.cells } ∷ rs) (sym (some_same q r h))
+      | false ↦ λ h. ap (λ zs. q ∷ zs) (holds-same id rs r h)
+    ] found
+
 -- the world after what was made, whatever else it has
-made-world : (p : Piece) (l m n : Layout) (ts us : List TxnRecord) (e : Evaluation) (made : Made) → answer_to e ≡ answer_made made → Became (held_made p made) l m → us ≡ records_made p.head p.items made ts → Became (shift_all (shifts_in p e)) m n → (w : World) → having n us w ≡ world_made (having l ts w) p made
-made-world p l m n ts us (Evaluation.Failed f) (Gives cells ws qs) answer after records shifted w = let no : Failed f ≡ Done qs = answer in cc
-made-world p l m n ts us (Evaluation.Served rs undo) (Fails f) answer after records shifted w = let no : Done rs ≡ Failed f = answer in cc
-made-world p l m n ts us (Evaluation.Failed f) (Fails g) answer after records shifted w =
-    ap (recorded us) (shifted w ∙ after w) ∙ ap (λ zs. having l zs w) records
-made-world p l m n ts us (Evaluation.Served rs undo) (Gives cells ws qs) answer after records shifted w =
+made-world : (p : Piece) (l m n : Layout) (ts us : List TxnRecord) (e : Evaluation) (r : Range) (made : Made) → find (has_id p.range) l.ranges ≡ Some r → answer_to e ≡ answer_made made → Became (with_cells p.range (after_made p.head made r.cells)) l m → us ≡ records_made p.head p.items made ts → Became (shift_all (shifts_in p e)) m n → (w : World) → having n us w ≡ world_made (having l ts w) p made
+made-world p l m n ts us (Evaluation.Failed f) r (Gives cells ws qs) found answer after records shifted w = let no : Failed f ≡ Done qs = answer in cc
+made-world p l m n ts us (Evaluation.Served rs undo) r (Fails f) found answer after records shifted w = let no : Done rs ≡ Failed f = answer in cc
+made-world p l m n ts us (Evaluation.Failed f) r (Fails g) found answer after records shifted w =
+    ap (recorded us) (shifted w ∙ after w) ∙ ap (λ zs. record w { ranges = zs; descs = l.descs; records = us }) (holds-same p.range l.ranges r found)
+    ∙ ap (λ zs. having l zs w) records
+made-world p l m n ts us (Evaluation.Served rs undo) r (Gives cells ws qs) found answer after records shifted w =
     let same : rs ≡ qs = done_same rs qs answer in
     let v : World = recorded ts w in
     ap (recorded us) (shifted v ∙ ap (shift_all (shifts_of p.items rs)) (after v))
@@ -91,7 +102,7 @@ some-at node p l m n ts us e (Some r) found goes answer after records shifted =
     let says : answer_to e ≡ answer_made (made_of ts p r) = some_same (answer_to e) (answer_made (made_of ts p r)) answer in
     record {
       answer = λ w. says ∙ sym (ap (deliver_answer_to (having l ts w) node p) found ∙ ap (answer_at (having l ts w) p r) goes);
-      after = λ w. made-world p l m n ts us e (made_of ts p r) says after records shifted w ∙ sym (ap (deliver_world_to (having l ts w) node p) found ∙ ap (world_at (having l ts w) p r) goes);
+      after = λ w. made-world p l m n ts us e r (made_of ts p r) found says after records shifted w ∙ sym (ap (deliver_world_to (having l ts w) node p) found ∙ ap (world_at (having l ts w) p r) goes);
     }
 
 -- the range serves the piece, and then the keys lie in ranges as its items say
@@ -105,7 +116,7 @@ pub noted-ok : (node : ℕ) (p : Piece) (l m : Layout) (ts us : List TxnRecord) 
 noted-ok node p l m ts us b (Ok a) d is = subst (Delivers node p l m ts us) (sym is) d
 noted-ok node p l m ts us b (Err e) d is = tt
 
-pub on-err : {X : Type 0} (r : Result Answer AllocError) → X → OnErr r X
+pub on-err : {T X : Type 0} (r : Result T AllocError) → X → OnErr r X
 on-err (Ok a) x = tt
 on-err (Err e) x = x
 

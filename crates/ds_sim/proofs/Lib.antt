@@ -2,9 +2,12 @@ pub mod Begins
 pub mod Closing
 pub mod Delivering
 pub mod Done
+pub mod Ending
 pub mod Examples
 pub mod Looking
+pub mod Making
 pub mod Moving
 pub mod Sending
 pub mod Shifting
+pub mod UnderWay
 pub mod Picking

@@ -9,7 +9,6 @@ use Rattle.ds_desc.specs.declared.desc.Info.{Info}
 use Rattle.ds_desc.specs.declared.desc.RangeDesc.{RangeDesc}
 use Rattle.ds_desc.specs.declared.meta.Looked.{Looked}
 use Rattle.ds_desc.specs.declared.meta.Looked.TheVariants.{Rows}
-use Rattle.ds_rule.specs.declared.journal.JournalStep.{JournalStep}
 use Rattle.ds_rule.specs.declared.journal.JournalStep.TheVariants.{Look}
 use Rattle.ds_rule.specs.declared.record.TxnRecord.{TxnRecord}
 use Rattle.ds_rule.specs.Clauses.{Looks, Steps}
@@ -20,6 +19,7 @@ use Rattle.ds_ranges.specs.Places.{IsFirst}
 use Rattle.ds_ranges.proofs.Finding.{first-found, none-found}
 use Rattle.ds_sim.specs.Looks.{LooksArmed, LooksUp}
 use Rattle.ds_sim.specs.State.{stands_for, world_of}
+use Rattle.ds_sim.specs.UnderWay.{Notes, UnderWay}
 use Rattle.ds_sim.proofs.Sending.{look_steps, stays_same}
 
 -- ---- the first that passes, by its position
@@ -98,23 +98,23 @@ looks-armed k d old new i desc infos l here at are is gone =
 armed-first : (k : List ℕ) (d : Dir) (old new : List RangeDesc) (l : Looked) → LooksArmed k d old new l → FirstContains d k l
 armed-first k d old new l h = subst (FirstContains d k) (sym h.rows) (found-passes (answers_lookup d k) old h.desc h.found)
 
-armed-steps : (k : List ℕ) (d : Dir) (layout : Layout) (old new : List RangeDesc) (ts : List TxnRecord) (n : ℕ) (steps later : List JournalStep) (floor c : ℕ) (picks : List ℕ) (l : Looked) → LooksArmed k d old new l → lies_ahead d k ≡ true → later ≡ steps ++ Look k d l ∷ [] → Steps (stands_for (world_of layout old ts n) steps floor c picks) (stands_for (world_of layout new ts n) later floor c picks) (Look k d l)
-armed-steps k d layout old new ts n steps later floor c picks l h ahead grown =
-    let w : World = world_of layout old ts n in
-    subst (λ z. Steps (stands_for w steps floor c picks) (stands_for (world_of layout new ts n) later floor c picks) (Look k d z)) (sym h.rows)
-    (look_steps w (world_of layout new ts n) steps later floor c picks k d (armed_row h.desc ∷ []) (grown ∙ ap (λ z. steps ++ Look k d z ∷ []) h.rows)
-    (sym (ap (rows_at d k w) h.found)) (ap (λ zs. world_of layout zs ts n) h.gone) ahead)
+armed-steps : (k : List ℕ) (d : Dir) (layout : Layout) (old new : List RangeDesc) (ts : List TxnRecord) (u v : UnderWay) (c : ℕ) (picks : List ℕ) (l : Looked) → LooksArmed k d old new l → lies_ahead d k ≡ true → Notes (Look k d l) u v → Steps (stands_for (world_of layout old ts u.count) u c picks) (stands_for (world_of layout new ts v.count) v c picks) (Look k d l)
+armed-steps k d layout old new ts u v c picks l h ahead notes =
+    let w : World = world_of layout old ts u.count in
+    subst (λ z. Steps (stands_for w u c picks) (stands_for (world_of layout new ts v.count) v c picks) (Look k d z)) (sym h.rows)
+    (look_steps w (world_of layout new ts v.count) u v c picks k d (armed_row h.desc ∷ []) (subst (λ z. Notes (Look k d z) u v) h.rows notes)
+    (sym (ap (rows_at d k w) h.found)) (ap (λ zs. world_of layout zs ts v.count) h.gone ∙ ap (λ z. world_of layout (without_first (answers_lookup d k) old) ts z.count) notes.is) ahead)
 
 -- ---- the ranges answer
 
-up-steps : (k : List ℕ) (d : Dir) (layout : Layout) (armed : List RangeDesc) (ts : List TxnRecord) (n : ℕ) (steps later : List JournalStep) (floor c : ℕ) (picks : List ℕ) (l : Looked) → position (answers_lookup d k) armed ≡ None → LooksUp k d layout l → lies_ahead d k ≡ true → later ≡ steps ++ Look k d l ∷ [] → Steps (stands_for (world_of layout armed ts n) steps floor c picks) (stands_for (world_of layout armed ts n) later floor c picks) (Look k d l)
-up-steps k d layout armed ts n steps later floor c picks l none h ahead grown =
-    let w : World = world_of layout armed ts n in
+up-steps : (k : List ℕ) (d : Dir) (layout : Layout) (armed : List RangeDesc) (ts : List TxnRecord) (u v : UnderWay) (c : ℕ) (picks : List ℕ) (l : Looked) → position (answers_lookup d k) armed ≡ None → LooksUp k d layout l → lies_ahead d k ≡ true → Notes (Look k d l) u v → Steps (stands_for (world_of layout armed ts u.count) u c picks) (stands_for (world_of layout armed ts v.count) v c picks) (Look k d l)
+up-steps k d layout armed ts u v c picks l none h ahead notes =
+    let w : World = world_of layout armed ts u.count in
     let all : Each (λ a. answers_lookup d k a ≡ false) armed = position-none (answers_lookup d k) armed none in
-    subst (λ z. Steps (stands_for w steps floor c picks) (stands_for w later floor c picks) (Look k d z)) (sym h.rows)
-    (look_steps w w steps later floor c picks k d h.infos (grown ∙ ap (λ z. steps ++ Look k d z ∷ []) h.rows)
+    subst (λ z. Steps (stands_for w u c picks) (stands_for (world_of layout armed ts v.count) v c picks) (Look k d z)) (sym h.rows)
+    (look_steps w (world_of layout armed ts v.count) u v c picks k d h.infos (subst (λ z. Notes (Look k d z) u v) h.rows notes)
     (h.are w ∙ ap (rows_at d k w) (none-found (answers_lookup d k) armed all))
-    (ap (λ zs. world_of layout zs ts n) (sym (none-removed (answers_lookup d k) armed all))) ahead)
+    (ap (λ z. world_of layout armed ts z.count) notes.is ∙ ap (λ zs. world_of layout zs ts u.count) (sym (none-removed (answers_lookup d k) armed all))) ahead)
 
 -- ---- the same over what the calls say
 
@@ -126,15 +126,13 @@ pub up-first-ok : (k : List ℕ) (d : Dir) (layout : Layout) (r : Result Looked 
 up-first-ok k d layout (Ok l) looks = looks.first
 up-first-ok k d layout (Err e) looks = tt
 
-pub armed-looks : (k : List ℕ) (d : Dir) (layout : Layout) (old new : List RangeDesc) (ts : List TxnRecord) (n : ℕ) (steps later : List JournalStep) (floor c : ℕ) (picks : List ℕ) (r : Result Looked AllocError) → IfOk r (λ l. LooksArmed k d old new l) → lies_ahead d k ≡ true → IfOk r (λ l. later ≡ steps ++ Look k d l ∷ []) → OnErr r (new ≡ old) → OnErr r (later ≡ steps) → Looks (stands_for (world_of layout old ts n) steps floor c picks) (stands_for (world_of layout new ts n) later floor c picks) k d r
-armed-looks k d layout old new ts n steps later floor c picks (Ok l) looks ahead grown same stay =
-    armed-steps k d layout old new ts n steps later floor c picks l looks ahead grown
-armed-looks k d layout old new ts n steps later floor c picks (Err e) looks ahead grown same stay =
-    stays_same (stands_for (world_of layout old ts n) steps floor c picks) (stands_for (world_of layout new ts n) later floor c picks)
-    (ap (λ zs. stands_for (world_of layout zs ts n) later floor c picks) same ∙ ap (λ zs. stands_for (world_of layout old ts n) zs floor c picks) stay)
+pub armed-looks : (k : List ℕ) (d : Dir) (layout : Layout) (old new : List RangeDesc) (ts : List TxnRecord) (u v : UnderWay) (c : ℕ) (picks : List ℕ) (r : Result Looked AllocError) → IfOk r (λ l. LooksArmed k d old new l) → lies_ahead d k ≡ true → IfOk r (λ l. Notes (Look k d l) u v) → OnErr r (new ≡ old) → OnErr r (v ≡ u) → Looks (stands_for (world_of layout old ts u.count) u c picks) (stands_for (world_of layout new ts v.count) v c picks) k d r
+armed-looks k d layout old new ts u v c picks (Ok l) looks ahead notes same stay = armed-steps k d layout old new ts u v c picks l looks ahead notes
+armed-looks k d layout old new ts u v c picks (Err e) looks ahead notes same stay =
+    stays_same (stands_for (world_of layout old ts u.count) u c picks) (stands_for (world_of layout new ts v.count) v c picks)
+    (ap (λ zs. stands_for (world_of layout zs ts v.count) v c picks) same ∙ ap (λ z. stands_for (world_of layout old ts z.count) z c picks) stay)
 
-pub up-looks : (k : List ℕ) (d : Dir) (layout : Layout) (armed : List RangeDesc) (ts : List TxnRecord) (n : ℕ) (steps later : List JournalStep) (floor c : ℕ) (picks : List ℕ) (r : Result Looked AllocError) → position (answers_lookup d k) armed ≡ None → IfOk r (λ l. LooksUp k d layout l) → lies_ahead d k ≡ true → IfOk r (λ l. later ≡ steps ++ Look k d l ∷ []) → OnErr r (later ≡ steps) → Looks (stands_for (world_of layout armed ts n) steps floor c picks) (stands_for (world_of layout armed ts n) later floor c picks) k d r
-up-looks k d layout armed ts n steps later floor c picks (Ok l) none looks ahead grown stay = up-steps k d layout armed ts n steps later floor c picks l none looks ahead grown
-up-looks k d layout armed ts n steps later floor c picks (Err e) none looks ahead grown stay =
-    stays_same (stands_for (world_of layout armed ts n) steps floor c picks) (stands_for (world_of layout armed ts n) later floor c picks)
-    (ap (λ zs. stands_for (world_of layout armed ts n) zs floor c picks) stay)
+pub up-looks : (k : List ℕ) (d : Dir) (layout : Layout) (armed : List RangeDesc) (ts : List TxnRecord) (u v : UnderWay) (c : ℕ) (picks : List ℕ) (r : Result Looked AllocError) → position (answers_lookup d k) armed ≡ None → IfOk r (λ l. LooksUp k d layout l) → lies_ahead d k ≡ true → IfOk r (λ l. Notes (Look k d l) u v) → OnErr r (v ≡ u) → Looks (stands_for (world_of layout armed ts u.count) u c picks) (stands_for (world_of layout armed ts v.count) v c picks) k d r
+up-looks k d layout armed ts u v c picks (Ok l) none looks ahead notes stay = up-steps k d layout armed ts u v c picks l none looks ahead notes
+up-looks k d layout armed ts u v c picks (Err e) none looks ahead notes stay =
+    stays_same (stands_for (world_of layout armed ts u.count) u c picks) (stands_for (world_of layout armed ts v.count) v c picks) (ap (λ z. stands_for (world_of layout armed ts z.count) z c picks) stay)

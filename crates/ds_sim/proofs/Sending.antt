@@ -1,5 +1,5 @@
 -- What a delivery adds to what a wire stands for.
-use Rattle.std.proofs.Common.{◌≡◌, ℕ, ◌<◌, ◌≤◌, ◌+◌, ◌-◌, ◌^◌, Bool, true, false, cond, List, [], ◌∷◌, ◌++◌, Option, Some, None, inl, inr, refl, sym, ap, ◌∙◌, subst, map, nat_lt, arith}
+use Rattle.std.proofs.Common.{◌≡◌, ℕ, ◌<◌, ◌≤◌, ◌+◌, ◌-◌, ◌^◌, Bool, true, false, cond, List, [], ◌∷◌, ◌++◌, Option, Some, None, inl, inr, refl, sym, ap, ◌∙◌, subst, nat_lt, arith}
 use Rattle.std.specs.List.{find}
 use Rattle.ds_base.specs.Counts.{Rose}
 use Rattle.ds_base.proofs.SmallFacts.{append_nil, ge_of}
@@ -15,14 +15,11 @@ use Rattle.ds_rule.specs.declared.journal.JournalStep.TheVariants.{Look, Send}
 use Rattle.ds_rule.specs.Asking.{Made, Gives, Fails}
 use Rattle.ds_rule.specs.World.{World, Range, has_id, look_rows, look_world}
 use Rattle.ds_rule.specs.Deliver.{Stop, Turned, Ended, stops, served, deliver_answer, deliver_world, deliver_answer_to, answer_at, answer_made}
-use Rattle.ds_rule.specs.Journal.{Did, BothWays}
+use Rattle.ds_rule.specs.Journal.{BothWays}
 use Rattle.ds_rule.specs.Clauses.{Stands, Steps, Stays, IsRefused, IsLost}
 use Rattle.ds_rule.proofs.Passing.{send_does}
 use Rattle.ds_sim.specs.State.{refused_after, stands_for}
-
-map_append : (xs ys : List JournalStep) → map Did (xs ++ ys) ≡ map Did xs ++ map Did ys
-map_append [] ys = refl
-map_append (x ∷ xs) ys = ap (λ zs. Did x ∷ zs) (map_append xs ys)
+use Rattle.ds_sim.specs.UnderWay.{Notes, UnderWay}
 
 raised : (n : ℕ) → n < 2 ^ 64 → Rose n (cond (nat_lt n (2 ^ 64 - 1)) (n + 1) n)
 raised n fits =
@@ -69,14 +66,15 @@ loses_of w n p (Done rs) is h = absurd h
 loses_of w n p (Failed f) is h = absurd h
 loses_of w n p (Refused r) is h = absurd h
 
-pub send_steps : (w v : World) (steps later : List JournalStep) (floor c n : ℕ) (picks : List ℕ) (p : Piece) (a : Answer) → later ≡ steps ++ Send n p a ∷ [] → a ≡ deliver_answer w n p → v ≡ deliver_world w n p → c < 2 ^ 64 → Steps (stands_for w steps floor c picks) (stands_for v later floor (refused_after a c) picks) (Send n p a)
-send_steps w v steps later floor c n picks p a grown is after fits = record {
+pub send_steps : (w v : World) (old new : UnderWay) (c n : ℕ) (picks : List ℕ) (p : Piece) (a : Answer) → Notes (Send n p a) old new → a ≡ deliver_answer w n p → v ≡ deliver_world w n p → c < 2 ^ 64 → Steps (stands_for w old c picks) (stands_for v new (refused_after a c) picks) (Send n p a)
+send_steps w v old new c n picks p a notes is after fits = record {
   moves = [];
   above = tt;
-  grown = ap (map Did) grown ∙ map_append steps (Send n p a ∷ []);
+  grown = notes.grown;
   runs = (v, send_does w v n p a is after, refl);
-  floor = refl;
+  floor = ap (λ z. z.floor) notes.is;
   ahead = refl;
+  block = ap (λ z. z.made ++ z.coming) notes.is;
   refused = refused_rises a c;
   lost = omega arith;
   refuses = refuses_of n p a c fits;
@@ -84,21 +82,22 @@ send_steps w v steps later floor c n picks p a grown is after fits = record {
 }
 
 -- what a lookup adds, whose rows are the world's
-pub look_steps : (w v : World) (steps later : List JournalStep) (floor c : ℕ) (picks : List ℕ) (k : List ℕ) (d : Dir) (infos : List Info) → later ≡ steps ++ Look k d (Looked.Rows infos) ∷ [] → infos ≡ look_rows w k d → v ≡ look_world w k d → lies_ahead d k ≡ true → Steps (stands_for w steps floor c picks) (stands_for v later floor c picks) (Look k d (Looked.Rows infos))
-look_steps w v steps later floor c picks k d infos grown rows after ahead = record {
+pub look_steps : (w v : World) (old new : UnderWay) (c : ℕ) (picks : List ℕ) (k : List ℕ) (d : Dir) (infos : List Info) → Notes (Look k d (Looked.Rows infos)) old new → infos ≡ look_rows w k d → v ≡ look_world w k d → lies_ahead d k ≡ true → Steps (stands_for w old c picks) (stands_for v new c picks) (Look k d (Looked.Rows infos))
+look_steps w v old new c picks k d infos notes rows after ahead = record {
   moves = [];
   above = tt;
-  grown = ap (map Did) grown ∙ map_append steps (Look k d (Looked.Rows infos) ∷ []);
+  grown = notes.grown;
   runs = (v, (BothWays, ((rows, ahead), after)), refl);
-  floor = refl;
+  floor = ap (λ z. z.floor) notes.is;
   ahead = refl;
+  block = ap (λ z. z.made ++ z.coming) notes.is;
   refused = omega arith;
   lost = omega arith;
   refuses = λ h. absurd h;
   loses = λ h. absurd h;
 }
 
-stays_here : (a : Stands) → Stays a a
+pub stays_here : (a : Stands) → Stays a a
 stays_here a = record {
   moves = [];
   above = tt;
@@ -106,6 +105,7 @@ stays_here a = record {
   runs = refl;
   floor = refl;
   ahead = refl;
+  block = refl;
   refused = omega arith;
   lost = omega arith;
 }

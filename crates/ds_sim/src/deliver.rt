@@ -1,5 +1,5 @@
 //! A piece delivered to a node.
-ghost use Rattle.std.specs.Prelude.{◌≡◌, ◌++◌, ◌∷◌, [], None, find, true, IfOk, OnOk, OnErr};
+ghost use Rattle.std.specs.Prelude.{◌≡◌, ◌++◌, ◌∷◌, [], None, Some, find, true, false, IfOk, OnOk, OnErr};
 ghost use Rattle.std.specs.List.{list_all};
 ghost use Rattle.std.specs.Option.{option_map};
 ghost use Rattle.ds_kind.specs.Asks.{has_proper_span};
@@ -7,13 +7,14 @@ ghost use Rattle.ds_kind.specs.Parts.{requests_of};
 ghost use Rattle.ds_rule.specs.declared.answer.Answer.TheVariants.{Done};
 ghost use Rattle.ds_rule.specs.declared.journal.JournalStep.TheVariants.{Send};
 ghost use Rattle.ds_rule.specs.Asking.{txn_of};
-ghost use Rattle.ds_rule.specs.Deliver.{is_rollback, status_stops, stop_answer, stops, stops_as};
+ghost use Rattle.ds_rule.specs.Deliver.{is_rollback, status_stops, stop_answer, stops_as};
 ghost use Rattle.ds_rule.specs.Records.{record_of};
 ghost use Rattle.ds_rule.specs.World.{has_id};
 ghost use Rattle.ds_ranges.specs.Layout.{Became};
-ghost use Rattle.ds_ranges.specs.Sound.{bare};
-ghost use Rattle.ds_sim.specs.Done.{Delivers, having, shift_all, shifts_of, stops_at};
+ghost use Rattle.ds_sim.specs.Done.{Delivers, shift_all, shifts_of, stops_at};
+ghost use Rattle.ds_sim.specs.UnderWay.{Notes, is_due};
 
+use crate::block::BlockState;
 use crate::shift::{make_shifts, shifts_of};
 use ds_base::{Copies, TxnNo};
 use ds_desc::Refusal;
@@ -82,7 +83,7 @@ fn turned_by(
     node: u8,
     piece: &Piece,
 ) -> Result<Option<Answer>, AllocError>
-    ensures { IfOk result (λ o. o ≡ option_map stop_answer (stops (having ranges.now records.now bare) node piece.now range.now)) }
+    ensures { IfOk result (λ o. o ≡ option_map stop_answer (stops_at ranges.now records.now node piece.now (Some range.now))) }
 {
     let info = range.info();
     if !info.desc.nodes.contains(node) {
@@ -216,7 +217,7 @@ fn serve(
 }
 
 /// Delivers the piece to the range with its id, and notes the step. Want of memory leaves all as it was.
-pub(crate) fn deliver(
+fn deliver(
     alloc: Global,
     ranges: &mut Ranges,
     records: &mut Records,
@@ -235,4 +236,25 @@ pub(crate) fn deliver(
         Some(answer) => noted(alloc, node, piece, answer, steps),
         None => serve(alloc, ranges, records, node, piece, steps),
     }
+}
+
+/// Delivers the piece to the range with its id, in the block, before whose next step no event is due. Want of
+/// memory leaves all as it was.
+pub(crate) fn deliver_in(
+    alloc: Global,
+    ranges: &mut Ranges,
+    records: &mut Records,
+    node: u8,
+    piece: &Piece,
+    block: &mut BlockState,
+) -> Result<Answer, AllocError>
+    requires proper { list_all has_proper_span (requests_of piece.now.items) ≡ true }
+    requires made { is_due block.old ≡ false }
+    ensures delivers { IfOk result (λ a. Delivers node piece.now ranges.old ranges.new records.old records.new a) }
+    ensures notes { IfOk result (λ a. Notes (Send node piece.now a) block.old block.new) }
+    ensures err { OnErr result (ranges.new ≡ ranges.old) }
+    ensures err_records { OnErr result (records.new ≡ records.old) }
+    ensures err_block { OnErr result (block.new ≡ block.old) }
+{
+    deliver(alloc, ranges, records, node, piece, &mut block.steps)
 }

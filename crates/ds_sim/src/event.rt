@@ -1,7 +1,7 @@
 //! What happens to the cluster beside the steps of a batch.
-ghost use Rattle.std.specs.Prelude.{◌≡◌, ◌+◌, ◌<◌, ◌-◌, ◌^◌, List, ℕ, true, if◌then◌else◌, OnOk, OnErr};
+ghost use Rattle.std.specs.Prelude.{◌≡◌, ◌+◌, ◌<◌, ◌-◌, ◌^◌, List, ℕ, true, length, OnOk, OnErr};
 ghost use Rattle.ds_kind.specs.Asks.{has_room};
-ghost use Rattle.ds_rule.specs.Moves.{counts, effect, moved};
+ghost use Rattle.ds_rule.specs.Moves.{effect, moved};
 ghost use Rattle.ds_rule.specs.Shifts.{foreign_at, move_to, stale_by};
 ghost use Rattle.ds_rule.specs.declared.record.TxnRecord.{TxnRecord};
 ghost use Rattle.ds_ranges.specs.Layout.{Became};
@@ -71,7 +71,7 @@ fn arm(
 
 /// Makes the event. No copy of a piece is ever under way here, so that none arrives; and what names a
 /// step does nothing by itself. Want of memory changes nothing.
-fn make(
+pub(crate) fn make(
     alloc: Global,
     ranges: &mut Ranges,
     armed: &mut Vec<RangeDesc>,
@@ -101,31 +101,12 @@ fn make(
     Ok(())
 }
 
-/// How many events were made after this one; what names a step is not counted.
-fn count_after(event: &Event, count: u64) -> u64
-    requires { count < 2 ^ 64 - 1 }
-    ensures { result ≡ (if counts event.now then count + 1 else count) }
-{
-    match event {
-        Event::LoseRequest { .. } | Event::LoseReply { .. } | Event::Copy { .. } => count,
-        Event::Write { .. }
-        | Event::Split { .. }
-        | Event::Merge { .. }
-        | Event::Lease { .. }
-        | Event::Move { .. }
-        | Event::Stale { .. }
-        | Event::Abort
-        | Event::Arrive { .. }
-        | Event::Restart { .. } => count + 1,
-    }
-}
-
 impl Sim {
     /// Makes one event of the cluster's own; a write must be at a key with room for one more byte. One that
     /// names a step, as a loss or a copy does, changes nothing here and is not counted. Want of memory leaves
     /// all as it was.
     pub fn event(&mut self, alloc: Global, event: &Event) -> Result<(), AllocError>
-        requires few { (self.old).count < 2 ^ 64 - 1 }
+        requires few { (state_of self.old).world.count + length (state_of self.old).block < 2 ^ 64 - 1 }
         requires made { CanBeMade event.now }
         ensures ok { OnOk result (state_of self.new ≡ record (state_of self.old) { world = moved (state_of self.old).world event.now }) }
         ensures err { OnErr result (state_of self.new ≡ state_of self.old) }
@@ -137,7 +118,7 @@ impl Sim {
             &mut self.records,
             event,
         )?;
-        self.count = count_after(event, self.count);
+        self.block.count_event(event);
         Ok(())
     }
 }

@@ -54,13 +54,16 @@ fn to_settle(records: &Records) -> Option<(TxnNo, Option<Stamp>)>
     }
 }
 
-/// Settles every intent of the open transaction.
+/// Settles every intent of the open transaction. After want of memory some may be settled, so that settling
+/// again settles the rest.
 pub(crate) fn settle_last(
     alloc: Global,
     ranges: &mut Ranges,
     records: &Records,
 ) -> Result<(), AllocError>
-    ensures { OnOk result (ranges.new ≡ layout (settle_by (last_of records.now) (ranges.old).ranges) (ranges.old).descs) }
+    ensures ok { OnOk result (ranges.new ≡ layout (settle_by (last_of records.now) (ranges.old).ranges) (ranges.old).descs) }
+    ensures again { settle_by (last_of records.now) (ranges.new).ranges ≡ settle_by (last_of records.now) (ranges.old).ranges }
+    ensures descs { (ranges.new).descs ≡ (ranges.old).descs }
 {
     match to_settle(records) {
         Some((txn, commit)) => ranges.settle(alloc, txn, commit),

@@ -1,8 +1,12 @@
 //! Each public call, on a cluster of one range.
-ghost use Rattle.std.specs.Prelude.{◌≡◌, true, IfOk};
+ghost use Rattle.std.specs.Prelude.{◌≡◌, true, length, IfOk};
 ghost use Rattle.std.specs.List.{list_all};
 ghost use Rattle.ds_kind.specs.Asks.{has_proper_span};
 ghost use Rattle.ds_kind.specs.Parts.{requests_of};
+ghost use Rattle.ds_rule.specs.Blocks.{never_fall};
+ghost use Rattle.ds_rule.specs.Moves.{IsMove};
+ghost use Rattle.ds_rule.specs.Pieces.{Each};
+ghost use Rattle.ds_sim.specs.Made.{CanBeMade};
 
 use crate::sim::Sim;
 use ds_base::{Dir, Key, Seq, Stamp, TxnNo, Value};
@@ -10,7 +14,7 @@ use ds_desc::{Looked, Meta, Nodes};
 use ds_kind::kinds::{GetArgs, IncrementArgs};
 use ds_kind::{Body, Head, Item, Items, Piece, Request, TxnStatus};
 use ds_ranges::{are_leased, tiles};
-use ds_rule::{Answer, Block, ClusterRange, Events, Picks, Wire};
+use ds_rule::{Answer, Block, ClusterRange, Event, Events, Picks, Timed, Wire};
 use std::alloc::Global;
 use std::test::Fail;
 
@@ -91,6 +95,18 @@ fn is_mine(looked: &Looked) -> bool {
     }
 }
 
+// A write of another client at the least key.
+fn write(alloc: Global, n: i64) -> Event
+    ensures made { CanBeMade result }
+    ensures moves { IsMove 0 result }
+{
+    Event::Write {
+        key: Key::least(alloc),
+        stamp: Stamp(1),
+        value: Some(Value::Int(n)),
+    }
+}
+
 // Picks one after another, of three that wait.
 fn picks_of(alloc: Global) -> Result<Picks, Fail> {
     let mut picks = Picks::new(alloc);
@@ -110,12 +126,12 @@ fn a_write_is_seen_in_a_block(rt: HostRuntime) -> Result<(), Fail> {
             picks: Picks::new(alloc),
         };
         sim.start_block(alloc, &block, Stamp(0))?;
-        if sim.count < 1000 {
-            sim.write(alloc, &Key::least(alloc), Stamp(1), Some(Value::Int(4)))?;
+        if sim.can_count() {
+            sim.event(alloc, &write(alloc, 4))?;
         }
         let answer = sim.send(alloc, 1, &piece(alloc, None, get(alloc))?)?;
         assert!(rt; shows(&answer, 4));
-        assert!(rt; sim.end_block(alloc).len() == 1);
+        assert!(rt; sim.end_block(alloc)?.len() == 1);
     }
     Ok(())
 }
@@ -162,6 +178,61 @@ fn a_block_s_picks_are_followed(rt: HostRuntime) -> Result<(), Fail> {
         assert!(rt; sim.pick(3) == 2);
         assert!(rt; sim.pick(3) == 1);
         assert!(rt; sim.pick(3) == 0);
+    }
+    Ok(())
+}
+
+// A write before the first step, and a split before the third.
+fn two_events(alloc: Global) -> Result<Events, Fail>
+    ensures rising { IfOk result (λ ts. never_fall 0 ts ≡ true) }
+    ensures moves { IfOk result (λ ts. Each (λ t. IsMove 0 t.event) ts) }
+    ensures two { IfOk result (λ ts. length ts ≡ 2) }
+{
+    let mut events = Events::new(alloc);
+    events.push(
+        alloc,
+        Timed {
+            at: 1,
+            event: write(alloc, 4),
+        },
+    )?;
+    events.push(
+        alloc,
+        Timed {
+            at: 3,
+            event: Event::Split {
+                key: letter(alloc)?,
+            },
+        },
+    )?;
+    Ok(events)
+}
+
+fn letter(alloc: Global) -> Result<Key, Fail> {
+    match Key::new(alloc, b"m") {
+        Ok(key) => Ok(key),
+        Err(_) => Ok(Key::least(alloc)),
+    }
+}
+
+#[test]
+fn events_are_made_when_they_are_due(rt: HostRuntime) -> Result<(), Fail> {
+    let alloc = rt.alloc();
+    let ranges = [whole(alloc)];
+    if tiles(&ranges) && are_leased(&ranges) {
+        let mut sim = Sim::new(alloc, &ranges)?;
+        let block = Block {
+            events: two_events(alloc)?,
+            picks: Picks::new(alloc),
+        };
+        if sim.count() < 1000 {
+            sim.start_block(alloc, &block, Stamp(0))?;
+            let answer = sim.send(alloc, 1, &piece(alloc, None, get(alloc))?)?;
+            assert!(rt; shows(&answer, 4));
+            assert!(rt; sim.count() == 1);
+            assert!(rt; sim.end_block(alloc)?.len() == 1);
+            assert!(rt; sim.ranges.len() == 2);
+        }
     }
     Ok(())
 }

@@ -43,10 +43,10 @@ fn begin(alloc: Global, count: u32) -> Result<Vec<ClusterRange>, AllocError> {
 fn make(alloc: Global, sim: &mut Sim, event: Event) -> Result<u64, AllocError>
     requires { CanBeMade event }
 {
-    if sim.count < u64::MAX {
+    if sim.can_count() {
         sim.event(alloc, &event)?;
     }
-    Ok(sim.count)
+    Ok(sim.count())
 }
 
 /// Looks the key up; a number for what was answered.

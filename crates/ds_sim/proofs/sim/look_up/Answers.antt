@@ -8,5 +8,5 @@ returns-clause-looks c = record {
   infos = c.in_ok-infos.infos;
   rows = refl;
   are = c.in_ok-infos.ensures;
-  first = first-looked c.args.dir c.args.key.now c.args.ranges.now c.in_ok-infos.infos (c.known.ensures bare) c.bytes.ensures.key c.requires c.in_ok-infos.ensures;
+  first = first-looked c.args.dir c.args.key.now c.args.ranges.now c.in_ok-infos.infos (c.known.ensures bare) c.bytes.ensures.key c.requires.ahead c.in_ok-infos.ensures;
 }

@@ -1,20 +1,7 @@
-use Rattle.std.proofs.Common.{rules, ◌≡◌, None, position}
-use Rattle.ds_rule.specs.World.{answers_lookup}
-use Rattle.ds_sim.proofs.Looking.{armed-first-ok, armed-looks, up-looks}
+use Rattle.ds_sim.specs.State.{state_of}
+use Rattle.ds_sim.proofs.Making.{looks-after}
 use Rattle.ds_sim.proofs.sim.SimMeta.lookup.Goals as goal
 
-pub returns-in-Some-clause-rows : goal.returns-in-Some-clause-rows
-returns-in-Some-clause-rows c = armed-first-ok c.args.key.now c.args.dir c.args.self.now.armed.items c.look_armed.new.armed.items c.look_armed.result c.look_armed.ensures.looks
-
-pub returns-in-Some-clause-looked : goal.returns-in-Some-clause-looked
-returns-in-Some-clause-looked c =
-    let s = c.args.self.now in
-    armed-looks c.args.key.now c.args.dir s.ranges s.armed.items c.look_armed.new.armed.items s.records s.count s.steps.items c.look_armed.new.steps.items s.floor.0 s.refused s.picks.items c.look_armed.result
-    c.look_armed.ensures.looks c.requires c.look_armed.ensures.steps c.look_armed.ensures.err c.look_armed.ensures.err_steps
-
-pub returns-in-None-clause-looked : goal.returns-in-None-clause-looked
-returns-in-None-clause-looked c =
-    let s = c.args.self.now in
-    let none : position (answers_lookup c.args.dir c.args.key.now) c.args.self.now.armed.items ≡ None = search rules in
-    up-looks c.args.key.now c.args.dir s.ranges s.armed.items s.records s.count s.steps.items c.look_up.new.steps.items s.floor.0 s.refused s.picks.items c.look_up.result none
-    c.look_up.ensures.looks c.requires c.look_up.ensures.steps c.look_up.ensures.err_steps
+pub returns-clause-looked : goal.returns-clause-looked
+returns-clause-looked c =
+    looks-after (state_of c.args.self.now) (state_of c.make_due.new.self) (state_of c.look_now.new.self) c.args.key.now c.args.dir c.look_now.result c.make_due.ensures.stays c.look_now.ensures.looked

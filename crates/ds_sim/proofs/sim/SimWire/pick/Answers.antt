@@ -10,7 +10,7 @@ returns-in-Some-clause-picked c =
 pub returns-in-Some-clause-rest : goal.returns-in-Some-clause-rest
 returns-in-Some-clause-rest c =
     let s = c.args.self.now in
-    ap (stands_for (world_of s.ranges s.armed.items s.records s.count) s.steps.items s.floor.0 s.refused)
+    ap (stands_for (world_of s.ranges s.armed.items s.records s.block.count) s.block s.refused)
     (later-picked c.args.self.now.picks.items c.pop_front.new.self.items c.in-Some.pick (c.pop_front.ensures.items ∙ ap (λ o. option_to_list o ++ c.pop_front.new.self.items) c.in-Some.is))
 
 pub returns-in-None-clause-picked : goal.returns-in-None-clause-picked
@@ -20,5 +20,5 @@ returns-in-None-clause-picked c =
 pub returns-in-None-clause-rest : goal.returns-in-None-clause-rest
 returns-in-None-clause-rest c =
     let s = c.args.self.now in
-    ap (stands_for (world_of s.ranges s.armed.items s.records s.count) s.steps.items s.floor.0 s.refused)
+    ap (stands_for (world_of s.ranges s.armed.items s.records s.block.count) s.block s.refused)
     (none-later c.args.self.now.picks.items c.pop_front.new.self.items (c.pop_front.ensures.items ∙ ap (λ o. option_to_list o ++ c.pop_front.new.self.items) c.in-None.is) c.pop_front.ensures.rest)
