@@ -1,44 +1,30 @@
 -- The first of two reaches, and of all items, is met at the seek key.
-use Rattle.std.proofs.Common.{◌≡◌, ℕ, true, false, not, cond, List, [], ◌∷◌, refl, sym, ap, ◌∙◌, Some, None}
-use Rattle.ds_base.specs.Order.{key_cmp, key_lt, key_le, after, max_key, min_key}
+use Rattle.std.proofs.Common.{◌≡◌, ℕ, true, false, cond, List, [], ◌∷◌, refl, sym, ap, Some, None}
+use Rattle.ds_base.specs.Order.{key_lt, key_le, max_key, min_key}
 use Rattle.ds_base.specs.declared.value.Dir.{Dir}
 use Rattle.ds_base.specs.declared.value.Dir.TheVariants.{Forward, Reverse}
-use Rattle.ds_base.proofs.KeyOrder.{after-above, below-after, key_le-antisymm, key_le_lt-trans, not-key_le}
-use Rattle.ds_base.proofs.OrderedFacts.{le_of_lt, le_of_not_lt, le_trans, not_lt_of_le}
-use Rattle.ds_base.proofs.SmallFacts.{not_greater}
+use Rattle.ds_base.proofs.KeyOrder.{key_le-antisymm}
+use Rattle.ds_base.proofs.NextKeys.{after_le, le_after, lt_of_not_le, next_le}
+use Rattle.ds_base.proofs.OrderedFacts.{le_of_lt, le_of_not_lt, not_lt_of_le}
 use Rattle.ds_kind.specs.Reach.{Reach, At, Over, extent_of}
 use Rattle.ds_kind.specs.Request.{reach_of}
 use Rattle.ds_kind.specs.declared.batch.Item.{Item}
 use Rattle.ds_cover.specs.Cuts.{seek_from, seek_key}
 use Rattle.ds_cut.specs.Seek.{near_end, first_met, first_over, ends_above, comes_first}
 
--- keys and the keys after them
-
-lt-of-not-le : (a b : List ℕ) → key_le a b ≡ false → key_lt b a ≡ true
-lt-of-not-le a b h = sym (not-key_le a b) ∙ ap not h
-
-pub next-le : (a b : List ℕ) → key_lt a b ≡ true → key_le (after a) b ≡ true
-next-le a b h = not_greater (key_cmp (after a) b) (after-above a b ∙ ap not h)
-
-after-le : (a b : List ℕ) → key_le a b ≡ true → key_le (after a) (after b) ≡ true
-after-le a b h = next-le a (after b) (key_le_lt-trans a b (after b) h (below-after b))
-
-le-after : (a b : List ℕ) → key_le a b ≡ true → key_le a (after b) ≡ true
-le-after a b h = le_trans a b (after b) h (le_of_lt b (after b) (below-after b))
-
 -- two reaches
 
 above-yes : (r q : Reach) → ends_above r q ≡ true → key_le (extent_of q).end (extent_of r).end ≡ true
-above-yes (At a) (At b) h = after-le b a h
-above-yes (At a) (Over s e) h = le-after e a h
-above-yes (Over s e) (At b) h = next-le b e h
+above-yes (At a) (At b) h = after_le b a h
+above-yes (At a) (Over s e) h = le_after e a h
+above-yes (Over s e) (At b) h = next_le b e h
 above-yes (Over s e) (Over t f) h = h
 
 above-no : (r q : Reach) → ends_above r q ≡ false → key_le (extent_of r).end (extent_of q).end ≡ true
-above-no (At a) (At b) h = after-le a b (le_of_lt a b (lt-of-not-le b a h))
-above-no (At a) (Over s e) h = next-le a e (lt-of-not-le e a h)
-above-no (Over s e) (At b) h = le-after e b (le_of_not_lt b e h)
-above-no (Over s e) (Over t f) h = le_of_lt e f (lt-of-not-le f e h)
+above-no (At a) (At b) h = after_le a b (le_of_lt a b (lt_of_not_le b a h))
+above-no (At a) (Over s e) h = next_le a e (lt_of_not_le e a h)
+above-no (Over s e) (At b) h = le_after e b (le_of_not_lt b e h)
+above-no (Over s e) (Over t f) h = le_of_lt e f (lt_of_not_le f e h)
 
 pub first-yes : (d : Dir) (r q : Reach) → comes_first d r q ≡ true → near_end d r ≡ first_met d (near_end d r) (near_end d q)
 first-yes Forward r q h =
@@ -61,7 +47,7 @@ pub first-no : (d : Dir) (r q : Reach) → comes_first d r q ≡ false → near_
 first-no Forward r q h =
     let a = (extent_of r).start in
     let b = (extent_of q).start in
-    sym (ap (λ t. cond t b a) (lt-of-not-le a b h))
+    sym (ap (λ t. cond t b a) (lt_of_not_le a b h))
 first-no Reverse r q h = greater (extent_of r).end (extent_of q).end (above-no r q h)
 
 -- all items

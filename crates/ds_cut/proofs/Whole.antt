@@ -2,6 +2,7 @@
 use Rattle.std.proofs.Common.{◌≡◌, ℕ, true, false, cond, List, [], ◌∷◌, ◌++◌, refl, sym, ap, ◌∙◌, subst, Option}
 use Rattle.ds_base.proofs.KeyFacts.{max_first, min_first}
 use Rattle.ds_base.proofs.KeyOrder.{below-after, key_le-antisymm}
+use Rattle.ds_base.proofs.NextKeys.{next_le}
 use Rattle.ds_base.proofs.OrderedFacts.{le_trans, lt_le_trans, not_lt_of_le}
 use Rattle.ds_base.proofs.SmallFacts.{and_first, and_second}
 use Rattle.ds_base.specs.Order.{Extent, key_lt, key_le, after, max_key, min_key}
@@ -23,10 +24,10 @@ use Rattle.ds_cover.proofs.Tracing.{uncut}
 use Rattle.ds_cut.specs.Pieces.{piece_with, cut_piece, rest_part, ContainsSeek, CutsOff}
 use Rattle.ds_cut.specs.Within.{stays_within, none_past}
 use Rattle.ds_cut.proofs.Meaning.{cut-meaning}
-use Rattle.ds_cut.proofs.Seeking.{greater, next-le}
+use Rattle.ds_cut.proofs.Seeking.{greater}
 
 pub below_is_within : (k e : List ℕ) → key_lt k e ≡ key_le (after k) e
-below_is_within k e = same_test (key_lt k e) (key_le (after k) e) (next-le k e) (lt_le_trans k (after k) e (below-after k))
+below_is_within k e = same_test (key_lt k e) (key_le (after k) e) (next_le k e) (lt_le_trans k (after k) e (below-after k))
 
 pub lesser : (a b : List ℕ) → key_le b a ≡ true → b ≡ min_key a b
 lesser a b h =

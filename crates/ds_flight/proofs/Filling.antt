@@ -11,7 +11,8 @@ use Rattle.ds_desc.specs.declared.desc.RangeDesc.{RangeDesc}
 use Rattle.ds_kind.specs.declared.batch.Head.{Head}
 use Rattle.ds_kind.specs.declared.batch.Item.{Item}
 use Rattle.ds_kind.specs.declared.batch.Part.{Part}
-use Rattle.ds_cover.specs.Cuts.{seek_key}
+use Rattle.ds_kind.specs.declared.batch.Piece.{Piece}
+use Rattle.ds_cover.specs.Cuts.{cut_items, seek_key}
 use Rattle.ds_cover.specs.Measures.{AllSpans, IsSpan}
 use Rattle.ds_cut.specs.Pieces.{ContainsSeek}
 use Rattle.ds_rule.specs.Journal.{Happening}
@@ -21,7 +22,9 @@ use Rattle.ds_flight.specs.Fills.{FillingCounts, FillingFits, RestsRouted}
 use Rattle.ds_flight.specs.Flights.{Flight, AllAtOnce}
 use Rattle.ds_flight.specs.Goes.{known_after, InOne}
 use Rattle.ds_flight.specs.Left.{blocks_of, arrived, failures, left_over}
+use Rattle.ds_flight.specs.Picks.{sends_of}
 use Rattle.ds_flight.specs.Places.{lies_in_one, CutAt}
+use Rattle.ds_flight.specs.Queues.{IsCutAt}
 use Rattle.ds_flight.specs.Ran.{Course, Ran}
 use Rattle.ds_flight.specs.Routes.{RouteContains, RouteCounts, RouteFound, RouteSought}
 use Rattle.ds_flight.specs.Searches.{Quiet, Searched}
@@ -32,7 +35,8 @@ use Rattle.ds_flight.specs.declared.route.Routing.{Routing}
 use Rattle.ds_flight.specs.declared.route.Routing.TheVariants as Route
 use Rattle.ds_flight.specs.declared.work.Task.{Task}
 use Rattle.ds_flight.specs.declared.work.Task.TheVariants.{Rest, Routed}
-use Rattle.ds_flight.proofs.Joins.{arrived-append, blocks-append, failures-append, known-append, over-append, ran-append}
+use Rattle.ds_flight.proofs.Cutting.{piece-items}
+use Rattle.ds_flight.proofs.Joins.{arrived-append, blocks-append, failures-append, known-append, over-append, ran-append, sends-append}
 use Rattle.ds_flight.proofs.Placing.{underway-cut-at}
 use Rattle.ds_flight.proofs.Working.{underway-later, underway-permuted}
 
@@ -40,6 +44,7 @@ use Rattle.ds_flight.proofs.Working.{underway-later, underway-permuted}
 
 quiet-append : (xs ys : List Happening) → Quiet xs → Quiet ys → Quiet (xs ++ ys)
 quiet-append xs ys x y = record {
+  sends = sends-append xs ys ∙ ap (λ ss. ss ++ sends_of ys) x.sends ∙ y.sends;
   blocks = blocks-append xs ys ∙ ap (λ bs. bs ++ blocks_of ys) x.blocks ∙ y.blocks;
   arrived_none = arrived-append xs ys ∙ ap (λ bs. bs ++ arrived ys) x.arrived_none ∙ y.arrived_none;
   none_failed = failures-append xs ys ∙ ap (λ bs. bs ++ failures ys) x.none_failed ∙ y.none_failed;
@@ -52,6 +57,7 @@ pub searched-append :
 searched-append f known left a b c xs ys x y = record {
   ran = ran-append f known left a b c xs ys x.ran (subst (λ l. Ran f (known_after known xs) l b c ys) (sym (x.quiet.left left)) y.ran);
   quiet = quiet-append xs ys x.quiet y.quiet;
+  ahead = y.ahead ∙ x.ahead;
 }
 
 -- rests are routed after others
@@ -102,6 +108,7 @@ rest-not-whole d whole a b c i t s old new is found contained h =
         lies-apart f f.whole i.desc c.items u.each.0.0.of.all u.each.0.0.some
             (subst (λ e. (s : List ℕ) → seek_key e c.items ≡ Some s → contains e s i.desc.span ≡ true) flies.dir seek)
             (subst (λ o. lies_in_one o i.desc.span ≡ false) flies.whole_is h),
+        record { rest = c; work = old; underway = underway-later f known done (Rest c ∷ old) went.0 u },
       ),
     )
 
@@ -135,10 +142,11 @@ rest-again d whole a b c at s old new is found same =
     )
 
 -- its lookup was lost, and no try is left
-pub rest-spent :
-    (d : Dir) (whole : Option Extent) (a b : Course) (s : Routing) (old new : List Task) → s ≡ Route.Spent → RouteFound d a b s → RestsRouted d whole a b old new Spent
-rest-spent d whole a b s old new is found =
-    λ f known left done flies all u. let went = (subst (RouteFound d a b) is found) f known left flies.dir all in (went.0, went.1, tt)
+pub rest-spent : (d : Dir) (whole : Option Extent) (a b : Course) (c : Part) (s : Routing) (old new : List Task) → s ≡ Route.Spent → RouteFound d a b s → RestsRouted d whole a b (Rest c ∷ old) new Spent
+rest-spent d whole a b c s old new is found =
+    λ f known left done flies all u.
+    let went = (subst (RouteFound d a b) is found) f known left flies.dir all in
+    (went.0, went.1, record { rest = c; work = old; underway = underway-later f known done (Rest c ∷ old) went.0 u })
 
 pub found-sought : (d : Dir) (a b : Course) (r : Routing) → RouteFound d a b r → RouteSought d a b
 found-sought d a b r found = λ f known left dir all. let went = found f known left dir all in (went.0, went.1)
@@ -161,3 +169,17 @@ again-counts m n s is counts = subst (RouteCounts m n) is counts
 
 pub spent-counts : (m n : Counts) (s : Routing) → s ≡ Route.Spent → RouteCounts m n s → FillingCounts n Spent
 spent-counts m n s is counts = (subst (RouteCounts m n) is counts).1
+
+-- ---- where the rest stood
+
+pub placed-cut :
+    (head : Head) (i : Info) (c : Part) (t at : ℕ) (old new : List Task) → ContainsSeek i.desc c → IsSpan i.desc.span → AllSpans c.items → CutAt head i c t at old new → IsCutAt c at old new
+placed-cut head i c t at old new seek span spans cut = record {
+  desc = i.desc;
+  flying = cut.flying;
+  items = ap (λ (p : Piece). p.items) (piece-items head i.desc.id c.dir (cut_items i.desc.span c.items) cut.flying.piece cut.taken.piece);
+  seek = seek;
+  span = span;
+  spans = spans;
+  work = cut.work;
+}

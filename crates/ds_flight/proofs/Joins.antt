@@ -7,6 +7,8 @@ use Rattle.ds_kind.specs.Left.{left_after}
 use Rattle.ds_base.specs.Order.{Extent}
 use Rattle.ds_retry.specs.Counted.{Counts}
 use Rattle.ds_rule.proofs.Eachs.{each-append}
+use Rattle.ds_rule.specs.Clauses.{later_picks}
+use Rattle.ds_rule.specs.declared.journal.JournalStep.{JournalStep}
 use Rattle.ds_rule.specs.Journal.{Happening, Moved, Did, Runs}
 use Rattle.ds_rule.specs.Path.{IsHigh, LosesOnly}
 use Rattle.ds_rule.specs.Pieces.{Each}
@@ -16,6 +18,7 @@ use Rattle.ds_flight.specs.Counting.{counted, counted_step}
 use Rattle.ds_flight.specs.Flights.{Flight, AllOfPart}
 use Rattle.ds_flight.specs.Goes.{Goes, known_after, descs_of, told_by}
 use Rattle.ds_flight.specs.Left.{arrived, arrived_by, block_by, blocks_of, failed_by, failures, left_over, replies_by}
+use Rattle.ds_flight.specs.Picks.{picks_after, sends_by, sends_of, TookPicks}
 use Rattle.ds_flight.specs.Ran.{AreKnown, Course, Ran, RefusesOnly}
 
 -- ---- folds over what happened
@@ -49,6 +52,19 @@ pub failures-append : (xs ys : List Happening) → failures (xs ++ ys) ≡ failu
 failures-append [] ys = refl
 failures-append (Moved e ∷ xs) ys = failures-append xs ys
 failures-append (Did s ∷ xs) ys = ap (λ bs. failed_by s ++ bs) (failures-append xs ys) ∙ sym (append_assoc (failed_by s) (failures xs) (failures ys))
+
+pub sends-append : (xs ys : List Happening) → sends_of (xs ++ ys) ≡ sends_of xs ++ sends_of ys
+sends-append [] ys = refl
+sends-append (Moved e ∷ xs) ys = sends-append xs ys
+sends-append (Did s ∷ xs) ys = ap (λ ss. sends_by s ++ ss) (sends-append xs ys) ∙ sym (append_assoc (sends_by s) (sends_of xs) (sends_of ys))
+
+-- picks that one way took after another
+pub took-then : (a b c : List ℕ) (xs ys : List Happening) → TookPicks a b xs → TookPicks b c ys → TookPicks a c (xs ++ ys)
+took-then a b c xs ys x y = y ∙ ap (λ ps. picks_after ps (sends_of ys)) x ∙ sym (ap (picks_after a) (sends-append xs ys) ∙ after-append a (sends_of xs) (sends_of ys))
+  where
+    after-append : (ps : List ℕ) (ss ts : List JournalStep) → picks_after ps (ss ++ ts) ≡ picks_after (picks_after ps ss) ts
+    after-append ps [] ts = refl
+    after-append ps (s ∷ ss) ts = after-append (later_picks ps) ss ts
 
 pub last-append : (p : _) (a : _) (xs ys : List Happening) → LastSend p a ys → LastSend p a (xs ++ ys)
 last-append p a xs ys l = record {

@@ -1,5 +1,5 @@
 -- Routing a rest leaves fewer tries, or less to be routed.
-use Rattle.std.proofs.Common.{◌≡◌, ℕ, ◌+◌, ◌-◌, ◌<◌, ◌≤◌, false, List, [], ◌∷◌, length, Option, Some, None, refl, sym, ap, ◌∙◌, subst, arith}
+use Rattle.std.proofs.Common.{◌≡◌, ℕ, ◌+◌, ◌-◌, ◌<◌, false, List, ◌∷◌, length, Some, None, refl, sym, ap, ◌∙◌, subst, arith}
 use Rattle.std.proofs.lemmas.List.Recursion.{is_sum_by}
 use Rattle.std.proofs.lemmas.List.Sorted.{IsPermutation-insert}
 use Rattle.std.proofs.lemmas.List.Sums.{sum_by-insert}
@@ -18,7 +18,7 @@ use Rattle.ds_cut.specs.Pieces.{rest_part, ContainsSeek}
 use Rattle.ds_retry.specs.Counted.{Counts, one_lost}
 use Rattle.ds_rule.specs.Pieces.{Each}
 use Rattle.ds_flight.specs.Causes.{GoesOn}
-use Rattle.ds_flight.specs.Fills.{rest_left, to_route, tries_left, AddsNone, IsReady, Lessens}
+use Rattle.ds_flight.specs.Fills.{rest_left, to_route, tries_left, IsReady, Lessens}
 use Rattle.ds_flight.specs.Places.{placed, rest_if, CutAt}
 use Rattle.ds_flight.specs.Works.{items_of, work_left}
 use Rattle.ds_flight.specs.declared.work.Flying.{Flying}
@@ -60,7 +60,7 @@ route-sum work = is_sum_by to_route rest_left refl (λ t ts. refl) work
 
 -- ---- what is left then
 
-less-tries : (r l b : ℕ) → r + l < b → b - (r + (l + 1)) < b - (r + l)
+pub less-tries : (r l b : ℕ) → r + l < b → b - (r + (l + 1)) < b - (r + l)
 less-tries r l b on = omega (arith, on)
 
 pub cut-lessens :

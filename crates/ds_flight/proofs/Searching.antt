@@ -23,13 +23,13 @@ use Rattle.ds_flight.specs.Goes.{descs_of}
 use Rattle.ds_flight.specs.Ran.{AreKnown, Ran}
 use Rattle.ds_flight.specs.Searches.{course, Quiet, Searched, SearchedTo}
 use Rattle.ds_flight.proofs.Caching.{each-found, front-known, known-begun, known-told}
-use Rattle.ds_flight.proofs.Stepping.{ran-stays, ran-step, step-arrived, step-blocks, step-failures, step-known, step-left}
+use Rattle.ds_flight.proofs.Stepping.{ran-stays, ran-step, step-arrived, step-blocks, step-failures, step-known, step-left, step-sends}
 use Rattle.ds_flight.proofs.Working.{of-right}
 
 -- ---- nothing but lookups
 
 pub quiet-none : Quiet []
-quiet-none = record { blocks = refl; arrived_none = refl; none_failed = refl; left = λ l. refl }
+quiet-none = record { sends = refl; blocks = refl; arrived_none = refl; none_failed = refl; left = λ l. refl }
 
 pub left-none : (l : Option ℕ) → left_after l [] ≡ l
 left-none None = refl
@@ -40,6 +40,7 @@ left-none (Some n) = ap Some (nothing n)
 
 look-quiet : (ms : List Event) (k : List ℕ) (d : Dir) (l : Looked) → Quiet (and_step ms (Look k d l))
 look-quiet ms k d l = record {
+  sends = step-sends ms (Look k d l);
   blocks = step-blocks ms (Look k d l);
   arrived_none = step-arrived ms (Look k d l);
   none_failed = step-failures ms (Look k d l);
@@ -74,7 +75,7 @@ found-here :
     → IsOneOf e.1.desc known → FoundWithout e old before s new after → SearchedTo f known left c (state before) (state after) old.entries new.entries s
 found-here state f known left c e old new before after s one h =
     let here : SearchedTo f known left c (state before) (state before) old.entries (to_front (Some e) old.entries) (Found e.1 e.0) =
-    ([], record { ran = ran-same f known left c (state before) old.entries (to_front (Some e) old.entries) (λ all. front-known known (Some e) old.entries (λ x is. subst (λ y. IsOneOf y.1.desc known) (some_same e x is) one) all); quiet = quiet-none }, one) in
+    ([], record { ran = ran-same f known left c (state before) old.entries (to_front (Some e) old.entries) (λ all. front-known known (Some e) old.entries (λ x is. subst (λ y. IsOneOf y.1.desc known) (some_same e x is) one) all); quiet = quiet-none; ahead = refl }, one) in
     subst (λ m. SearchedTo f known left c (state before) (state m) old.entries new.entries s) (sym h.2)
     (subst (λ n. SearchedTo f known left c (state before) (state before) old.entries n.entries s) (sym h.1)
     (subst (SearchedTo f known left c (state before) (state before) old.entries (to_front (Some e) old.entries)) (sym h.0) here))
@@ -90,6 +91,7 @@ looked-up f known left c d k old new a b (Looked.Rows (i ∷ is)) s dir ahead st
       record {
         ran = ran-step f known left (course a old.entries c) (course b new.entries c) step (dir, ahead) tt refl (known-told known (i ∷ is) old new after.1) steps;
         quiet = look-quiet steps.moves k d (Looked.Rows (i ∷ is));
+        ahead = steps.ahead;
       },
       subst (IsOneOf i.desc) (sym (step-known known steps.moves step)) (of-right i.desc known (descs_of (i ∷ is)) (inl refl)),
     )
@@ -101,6 +103,7 @@ looked-up f known left c d k old new a b Looked.Lost s dir ahead steps first aft
         ran = ran-step f known left (course a old.entries c) (course b new.entries (one_lost false c)) step (dir, ahead) tt refl
             (λ all. subst (λ n. AreKnown (known ++ []) n.entries) (sym after.1) (subst (λ ds. AreKnown ds old.entries) (sym (append_nil known)) all)) steps;
         quiet = look-quiet steps.moves k d Looked.Lost;
+        ahead = steps.ahead;
       },
     )
 
@@ -133,12 +136,13 @@ begun-by looked state law f known left c d k None old new before after one dir a
       record {
         ran = ran-stays f known left (course (state before) old.entries c) (course (state after) new.entries c) refl (λ all. subst (λ n. AreKnown known n.entries) (sym h.2) all) stays;
         quiet = moves-quiet stays.moves;
+        ahead = stays.ahead;
       },
     )
   where
     moves-quiet : (ms : List Event) → Quiet (map Moved ms)
     moves-quiet [] = quiet-none
-    moves-quiet (m ∷ ms) = let q = moves-quiet ms in record { blocks = q.blocks; arrived_none = q.arrived_none; none_failed = q.none_failed; left = q.left }
+    moves-quiet (m ∷ ms) = let q = moves-quiet ms in record { sends = q.sends; blocks = q.blocks; arrived_none = q.arrived_none; none_failed = q.none_failed; left = q.left }
 begun-by looked state law f known left c d k None old new before after one dir ahead (inr h) =
     let step = Look k d (Looked.Rows h.0) in
     let steps : Steps (state before) (state after) step = law before after k d (Ok (Looked.Rows h.0)) h.1 in (
@@ -146,6 +150,7 @@ begun-by looked state law f known left c d k None old new before after one dir a
       record {
         ran = ran-step f known left (course (state before) old.entries c) (course (state after) new.entries c) step (dir, ahead) tt refl (known-begun known h.0 old new h.3) steps;
         quiet = look-quiet steps.moves k d (Looked.Rows h.0);
+        ahead = steps.ahead;
       },
     )
 

@@ -17,6 +17,7 @@ use Rattle.ds_flight.specs.Counting.{counted, counted_step}
 use Rattle.ds_flight.specs.Flights.{Flight, AllOfPart, StepOfPart}
 use Rattle.ds_flight.specs.Goes.{Goes, StepGoes, known_after, descs_of, told_by}
 use Rattle.ds_flight.specs.Left.{arrived, arrived_by, block_by, blocks_of, failed_by, failures, left_over, replies_by}
+use Rattle.ds_flight.specs.Picks.{sends_by, sends_of}
 use Rattle.ds_flight.specs.Ran.{AreKnown, Course, Ran, RefusesOnly}
 
 -- ---- folds over moves and then a step
@@ -40,6 +41,10 @@ step-blocks (m ∷ ms) s = step-blocks ms s
 pub step-arrived : (ms : List Event) (s : JournalStep) → arrived (and_step ms s) ≡ arrived_by s
 step-arrived [] s = append_nil (arrived_by s)
 step-arrived (m ∷ ms) s = step-arrived ms s
+
+pub step-sends : (ms : List Event) (s : JournalStep) → sends_of (and_step ms s) ≡ sends_by s
+step-sends [] s = append_nil (sends_by s)
+step-sends (m ∷ ms) s = step-sends ms s
 
 pub step-failures : (ms : List Event) (s : JournalStep) → failures (and_step ms s) ≡ failed_by s
 step-failures [] s = append_nil (failed_by s)

@@ -6,6 +6,7 @@ use Rattle.ds_base.specs.Order.{Extent}
 use Rattle.ds_base.specs.declared.value.Dir.{Dir}
 use Rattle.ds_desc.specs.declared.desc.RangeDesc.{RangeDesc}
 use Rattle.ds_kind.specs.declared.batch.Item.{Item}
+use Rattle.ds_kind.specs.declared.batch.Part.{Part}
 use Rattle.ds_cover.specs.Measures.{left_in}
 use Rattle.ds_retry.specs.Counted.{Counts, first_counts, one_lost}
 use Rattle.ds_rule.specs.Journal.{Happening}
@@ -28,17 +29,29 @@ pub record FliesSo (d : Dir) (whole : Option Extent) (f : Flight) : Type 0 where
   pub whole_is : whole ≡ f.whole
   pub holds : WholeHolds f.whole f.part.items
 
+-- a rest of the work is left
+pub record LeavesRest (f : Flight) (known : List RangeDesc) (done : List (List Item)) : Type 0 where
+  pub rest : Part
+  pub work : List Task
+  pub underway : Underway f known done (Rest rest ∷ work)
+
 -- the work that is left, or why routing ended
 abbrev pub FillingFits : Flight → List RangeDesc → List (List Item) → List Task → Filling → Type 0
 FillingFits f known done new On = Underway f known done new
-FillingFits f known done new (NotWhole desc) = IsOneOf desc known × LiesApart f f.whole desc
-FillingFits f known done new Spent = Unit {0}
+FillingFits f known done new (NotWhole desc) = IsOneOf desc known × LiesApart f f.whole desc × LeavesRest f known done
+FillingFits f known done new Spent = LeavesRest f known done
 
 -- rests of the work were routed, for any part that flies so, whatever is known and done of it
 abbrev pub RestsRouted : Dir → Option Extent → Course → Course → List Task → List Task → Filling → Type 0
 RestsRouted d whole a b old new r =
     (f : Flight) (known : List RangeDesc) (left : Option ℕ) (done : List (List Item)) → FliesSo d whole f → AreKnown known a.entries → Underway f known done old
     → (hs : List Happening) × Searched f known left a b hs × FillingFits f (known_after known hs) done new r
+
+-- what was done where memory was wanted
+abbrev pub RestsSought : Dir → Option Extent → Course → Course → List Task → Type 0
+RestsSought d whole a b old =
+    (f : Flight) (known : List RangeDesc) (left : Option ℕ) (done : List (List Item)) → FliesSo d whole f → AreKnown known a.entries → Underway f known done old
+    → (hs : List Happening) × Searched f known left a b hs
 
 -- whether there are tries left
 abbrev pub FillingCounts : Counts → Filling → Type 0
@@ -78,12 +91,22 @@ LessensIfOn c d old new On = Lessens c d old new
 LessensIfOn c d old new (NotWhole desc) = Unit {0}
 LessensIfOn c d old new Spent = Unit {0}
 
+-- one piece more waits at most
+abbrev pub AddsOne : List Task → List Task → Type 0
+AddsOne old new = waiting new ≤ waiting old + 1
+
 -- so many pieces wait, or there are no more rests
 abbrev pub IsFilled : ℕ → List Task → Type 0
 IsFilled most work = (most ≤ waiting work) ⊎ (position is_rest work ≡ None)
 
+-- what is routed and what is left when it ends well; where no more waited than may, no more do
+pub record Fills (most : ℕ) (c d : Counts) (old new : List Task) : Type 0 where
+  pub adds_none : AddsNone c d old new
+  pub filled : IsFilled most new
+  pub few : waiting old ≤ most → waiting new ≤ most
+
 abbrev pub FilledTo : ℕ → Counts → Counts → List Task → List Task → Filling → Type 0
-FilledTo most c d old new On = AddsNone c d old new × IsFilled most new
+FilledTo most c d old new On = Fills most c d old new
 FilledTo most c d old new (NotWhole desc) = Unit {0}
 FilledTo most c d old new Spent = Unit {0}
 

@@ -1,11 +1,17 @@
 pub mod Causes
 pub mod Counting
+pub mod Covers
 pub mod Fills
 pub mod Flights
+pub mod Flown
 pub mod Goes
 pub mod Left
+pub mod Picked
+pub mod Picks
 pub mod Places
+pub mod Queues
 pub mod Ran
 pub mod Routes
 pub mod Searches
+pub mod Sends
 pub mod Works

@@ -1,6 +1,6 @@
 -- Where tasks stand in the work.
-use Rattle.std.specs.Prelude.{◌≡◌, ℕ, Bool, true, false, List, [], ◌∷◌, Option, Some, None, refl}
-use Rattle.std.specs.List.{insert, position, sum_by}
+use Rattle.std.specs.Prelude.{◌≡◌, ℕ, ◌+◌, Bool, true, false, List, [], ◌∷◌, Option, Some, None, refl}
+use Rattle.std.specs.List.{insert, position, slice_get, sum_by}
 use Rattle.ds_base.specs.Order.{Extent}
 use Rattle.ds_base.specs.declared.value.Dir.TheVariants.{Forward}
 use Rattle.ds_desc.specs.declared.desc.Info.{Info}
@@ -26,6 +26,16 @@ one_if_routed (Routed r) = 1
 -- how many routed pieces wait
 abbrev pub waiting : List Task → ℕ
 waiting work = sum_by one_if_routed work
+
+-- the places of those that wait, counted from this one on
+abbrev pub routed_from : ℕ → List Task → List ℕ
+routed_from at [] = []
+routed_from at (Rest c ∷ ts) = routed_from (at + 1) ts
+routed_from at (Routed r ∷ ts) = at ∷ routed_from (at + 1) ts
+
+-- the place of the n-th of them, from 0
+abbrev pub nth_routed : ℕ → List Task → Option ℕ
+nth_routed n work = slice_get (routed_from 0 work) n
 
 -- what is left of a rest, at a place, if anything is
 abbrev pub rest_if : Option (List ℕ) → Part → ℕ → List Task → List Task

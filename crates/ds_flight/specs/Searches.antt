@@ -11,22 +11,25 @@ use Rattle.ds_rule.specs.Pieces.{IsOneOf}
 use Rattle.ds_flight.specs.Flights.{Flight}
 use Rattle.ds_flight.specs.Goes.{known_after}
 use Rattle.ds_flight.specs.Left.{arrived, blocks_of, failures, left_over}
+use Rattle.ds_flight.specs.Picks.{sends_of}
 use Rattle.ds_flight.specs.Ran.{Course, Ran}
 
 abbrev pub course : Stands → List Entry → Counts → Course
 course w es c = record { wire = w; entries = es; counts = c }
 
--- nothing was answered Done or failed
+-- nothing was sent, so that nothing was answered Done or failed
 pub record Quiet (hs : List Happening) : Type 0 where
+  pub sends : sends_of hs ≡ []
   pub blocks : blocks_of hs ≡ []
   pub arrived_none : arrived hs ≡ []
   pub none_failed : failures hs ≡ []
   pub left : (l : Option ℕ) → left_over l hs ≡ l
 
--- at most lookups were made
+-- at most lookups were made, which take no pick
 pub record Searched (f : Flight) (known : List RangeDesc) (left : Option ℕ) (a b : Course) (hs : List Happening) : Type 0 where
   pub ran : Ran f known left a b hs
   pub quiet : Quiet hs
+  pub ahead : b.wire.ahead ≡ a.wire.ahead
 
 -- what was sought is known then, or one lookup was lost
 abbrev pub SearchedTo : Flight → List RangeDesc → Option ℕ → Counts → Stands → Stands → List Entry → List Entry → Sought → Type 0

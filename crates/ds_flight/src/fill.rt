@@ -1,13 +1,17 @@
 //! Routes the rests of a flight.
-ghost use Rattle.std.specs.Prelude.{◌≡◌, ◌≤◌, ◌<◌, ◌∷◌, length, IfOk, OnOk, OnErr};
+ghost use Rattle.std.specs.Prelude.{◌≡◌, ◌≤◌, ◌∷◌, Some, length, IfOk, OnOk, OnErr};
 ghost use Rattle.ds_rule.specs.Pieces.{Each};
 ghost use Rattle.ds_flight.specs.Causes.{GoesOn};
-ghost use Rattle.ds_flight.specs.Fills.{FillingCounts, IsReady, LessensIfOn, RestsRouted};
+ghost use Rattle.ds_flight.specs.Fills.{AddsOne, FilledTo, FillingCounts, IsReady, LessensIfOn, RestsRouted, RestsSought};
+ghost use Rattle.ds_flight.specs.Places.{is_rest};
+ghost use Rattle.std.specs.List.{position};
+ghost use Rattle.ds_flight.specs.Queues.{KeepsQueue, RestPlaced};
 ghost use Rattle.ds_flight.specs.Routes.{RouteSought};
 ghost use Rattle.ds_flight.specs.Searches.{course};
 ghost use Rattle.ds_flight.specs.declared.work.Task.TheVariants.{Rest};
 
 use crate::cut::{cut_at, lies_in_one};
+use crate::places::{first_rest, routed_count};
 use crate::route::{Routing, route};
 use crate::span::span_known;
 use crate::work::Task;
@@ -51,6 +55,8 @@ fn route_rest<W: Wire>(
     ensures counts { IfOk result (λ r. FillingCounts attempts.new r) }
     ensures ready { OnOk result (Each (IsReady dir) work.new.items) }
     ensures less { IfOk result (λ r. LessensIfOn attempts.old attempts.new (Rest rest ∷ work.old.items) work.new.items r) }
+    ensures few { OnOk result (AddsOne (Rest rest ∷ work.old.items) work.new.items) }
+    ensures placed { IfOk result (λ r. RestPlaced rest at work.old.items work.new.items r) }
     ensures sought { OnErr result (RouteSought dir (course (W.state wire.old) cache.old.entries attempts.old) (course (W.state wire.new) cache.new.entries attempts.new)) }
 {
     rest.known();
@@ -69,4 +75,69 @@ fn route_rest<W: Wire>(
         }
         Routing::Spent => Ok(Filling::Spent),
     }
+}
+
+/// Routes the rest at this place of the work.
+fn route_at<W: Wire>(
+    alloc: Global,
+    cache: &mut RangeCache,
+    wire: &mut W,
+    attempts: &mut Attempts,
+    work: &mut Vec<Task>,
+    at: usize,
+    head: &Head,
+    rule: &Rule,
+    dir: Dir,
+) -> Result<Filling, AllocError>
+    requires place { position is_rest work.old.items ≡ Some at }
+    requires ready { Each (IsReady dir) work.old.items }
+    requires goes_on { GoesOn attempts.old }
+    ensures routed { IfOk result (λ r. RestsRouted dir rule.now.whole (course (W.state wire.old) cache.old.entries attempts.old) (course (W.state wire.new) cache.new.entries attempts.new) work.old.items work.new.items r) }
+    ensures counts { IfOk result (λ r. FillingCounts attempts.new r) }
+    ensures ready { OnOk result (Each (IsReady dir) work.new.items) }
+    ensures less { IfOk result (λ r. LessensIfOn attempts.old attempts.new work.old.items work.new.items r) }
+    ensures few { OnOk result (AddsOne work.old.items work.new.items) }
+    ensures queue { IfOk result (λ r. KeepsQueue dir work.old.items work.new.items r) }
+    ensures sought { OnErr result (RouteSought dir (course (W.state wire.old) cache.old.entries attempts.old) (course (W.state wire.new) cache.new.entries attempts.new)) }
+{
+    match work.remove(at) {
+        Task::Rest(rest) => route_rest(
+            alloc, cache, wire, attempts, work, at, rest, head, rule, dir,
+        ),
+        Task::Routed(_) => unreachable!(),
+    }
+}
+
+/// Routes rests, the first one each time, while there are any and fewer than `most` pieces wait.
+/// Lost lookups are counted and made again. After want of memory the work isn't whole.
+pub(crate) fn fill<W: Wire>(
+    alloc: Global,
+    cache: &mut RangeCache,
+    wire: &mut W,
+    attempts: &mut Attempts,
+    work: &mut Vec<Task>,
+    most: usize,
+    head: &Head,
+    rule: &Rule,
+    dir: Dir,
+) -> Result<Filling, AllocError>
+    requires ready { Each (IsReady dir) work.old.items }
+    requires goes_on { GoesOn attempts.old }
+    ensures routed { IfOk result (λ r. RestsRouted dir rule.now.whole (course (W.state wire.old) cache.old.entries attempts.old) (course (W.state wire.new) cache.new.entries attempts.new) work.old.items work.new.items r) }
+    ensures counts { IfOk result (λ r. FillingCounts attempts.new r) }
+    ensures queue { IfOk result (λ r. KeepsQueue dir work.old.items work.new.items r) }
+    ensures filled { IfOk result (λ r. FilledTo most attempts.old attempts.new work.old.items work.new.items r) }
+    ensures sought { OnErr result (RestsSought dir rule.now.whole (course (W.state wire.old) cache.old.entries attempts.old) (course (W.state wire.new) cache.new.entries attempts.new) work.old.items) }
+{
+    'rests: while routed_count(work.as_slice()) < most {
+        let Some(at) = first_rest(work.as_slice()) else {
+            return Ok(Filling::On);
+        };
+        match route_at(alloc, cache, wire, attempts, work, at, head, rule, dir)? {
+            Filling::On => {}
+            Filling::NotWhole { desc } => return Ok(Filling::NotWhole { desc }),
+            Filling::Spent => return Ok(Filling::Spent),
+        }
+    }
+    Ok(Filling::On)
 }

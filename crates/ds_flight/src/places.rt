@@ -2,7 +2,7 @@
 ghost use Rattle.std.specs.Prelude.{◌≡◌, ◌≤◌, length, OnOk};
 ghost use Rattle.std.specs.List.{position};
 ghost use Rattle.ds_cover.specs.Cuts.{seek_key};
-ghost use Rattle.ds_flight.specs.Places.{is_rest, one_if_routed, placed, rest_if, waiting};
+ghost use Rattle.ds_flight.specs.Places.{is_rest, nth_routed, one_if_routed, placed, rest_if, waiting};
 
 use crate::work::{Flying, Task};
 use ds_cut::Cutter;
@@ -35,6 +35,23 @@ pub(crate) fn routed_count(work: &[Task]) -> usize
         count += one_if_routed(task);
     }
     count
+}
+
+/// The place of the n-th routed piece, from 0.
+pub(crate) fn nth_routed(work: &[Task], n: usize) -> Option<usize>
+    ensures { result ≡ nth_routed n work.now }
+{
+    let mut left = n;
+    'tasks: for at in 0..work.len() {
+        if one_if_routed(&work[at]) == 0 {
+            continue;
+        }
+        if left == 0 {
+            return Some(at);
+        }
+        left -= 1;
+    }
+    None
 }
 
 /// Puts back what is left of a rest, if anything is.

@@ -1,14 +1,12 @@
 -- The answers of a piece, one after another.
 use Rattle.std.proofs.Common.{◌≡◌, List, [], ◌∷◌, ◌++◌, length, drop, refl, sym, ap, ◌∙◌}
+use Rattle.ds_base.proofs.ListFacts.{cons_head}
 use Rattle.ds_kind.specs.declared.batch.Item.{Item}
 use Rattle.ds_kind.specs.declared.reply.Reply.{Reply}
 use Rattle.ds_gather.specs.Gathered.{arrival, arrivals}
 
 cons_not_nil : {X : Type 0} {G : Type 0} (x : X) (xs : List X) → [] ≡ x ∷ xs → G
 cons_not_nil x xs h = cc
-
-cons_heads : {X : Type 0} (x y : X) (xs ys : List X) → x ∷ xs ≡ y ∷ ys → x ≡ y
-cons_heads x y xs ys h = cc
 
 pub no_replies : (is : List Item) → arrivals is [] ≡ []
 no_replies [] = refl
@@ -17,7 +15,7 @@ no_replies (i ∷ is) = refl
 pub come_more : (is : List Item) (ys : List Reply) (i : Item) (rest : List Item) (r : Reply) → drop (length ys) is ≡ i ∷ rest → arrivals is (ys ++ r ∷ []) ≡ arrivals is ys ++ arrival i r ∷ []
 come_more [] [] i rest r h = cons_not_nil i rest h
 come_more [] (y ∷ ys) i rest r h = cons_not_nil i rest h
-come_more (j ∷ is) [] i rest r h = ap (λ z. arrival j r ∷ z) (no_replies is) ∙ ap (λ k. arrival k r ∷ []) (cons_heads j i is rest h)
+come_more (j ∷ is) [] i rest r h = ap (λ z. arrival j r ∷ z) (no_replies is) ∙ ap (λ k. arrival k r ∷ []) (cons_head j i is rest h)
 come_more (j ∷ is) (y ∷ ys) i rest r h = ap (λ z. arrival j y ∷ z) (come_more is ys i rest r h)
 
 pub come_all : (is : List Item) (ys zs : List Reply) → drop (length ys) is ≡ [] → arrivals is (ys ++ zs) ≡ arrivals is ys

@@ -5,6 +5,7 @@ use Rattle.ds_base.specs.Order.{key_lt}
 use Rattle.ds_base.specs.Ordered.{AllOver, AllFrom, AllBelow, Ascends}
 use Rattle.ds_base.proofs.OrderedFacts.{le_of_lt, lt_le_trans, over-append}
 use Rattle.ds_base.proofs.KeyFacts.{from_lower}
+use Rattle.ds_base.proofs.ListFacts.{last_first}
 use Rattle.ds_kind.specs.Bodies.{put_in_order, in_order, those_at}
 use Rattle.ds_kind.specs.declared.reply.Body.TheVariants.{Rows, Gone}
 use Rattle.ds_kind.specs.declared.reply.Row.{Row}
@@ -17,9 +18,6 @@ use Rattle.ds_gather.proofs.Joining.{all_of, all_push, rows_all, keys_all}
 
 abbrev turned : {X : Type 0} → Bool → List X → List X
 turned down xs = cond down (reverse xs) xs
-
-last_first : {X : Type 0} (x : X) (xs : List X) → reverse (x ∷ xs) ≡ reverse xs ++ x ∷ []
-last_first x xs = reverse-append (x ∷ []) xs
 
 -- bounds of lists put together, and turned
 
