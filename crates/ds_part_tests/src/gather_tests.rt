@@ -199,23 +199,37 @@ fn gathers(alloc: Global, op: Op, order: &[u8], want: &[u8]) -> Result<bool, Fai
     Ok(replies.len() == 1 && is_reply(op, replies.get(0), want))
 }
 
-// The same for both requests of a part.
-fn gathers_both(alloc: Global, order: &[u8], want: &[u8]) -> Result<bool, Fail> {
+// The replies of both requests of a part, after the answers of these pieces in this order.
+fn gathered_both(alloc: Global, order: &[u8]) -> Result<Replies, Fail> {
     let mut gather = Gather::new(alloc, &part_of_two(alloc)?)?;
     for byte in order {
         put_both(alloc, &mut gather, *byte)?;
     }
-    let replies = gather.take();
-    Ok(
-        replies.len() == 2
-            && is_reply(Op::Scan, replies.get(0), want)
-            && is_reply(Op::Delete, replies.get(1), want),
-    )
+    Ok(gather.take())
 }
 
-// The replies of a scan after one piece, whose answer left a resume span.
-fn gathered_with(alloc: Global, resume: Span) -> Result<Replies, Fail> {
+// Whether they are the two replies with these.
+fn are_both(replies: &Replies, want: &[u8]) -> bool {
+    replies.len() == 2
+        && is_reply(Op::Scan, replies.get(0), want)
+        && is_reply(Op::Delete, replies.get(1), want)
+}
+
+fn gathers_both(alloc: Global, order: &[u8], want: &[u8]) -> Result<bool, Fail> {
+    let replies = gathered_both(alloc, order)?;
+    Ok(are_both(&replies, want))
+}
+
+fn span(alloc: Global, start: &[u8], end: &[u8]) -> Result<Span, Fail> {
+    let start = key(alloc, start)?;
+    let end = key(alloc, end)?;
+    Ok(Span::new(start, end).map_err(|_| "a span")?)
+}
+
+// The replies of a scan after one piece, whose answer left this span to resume.
+fn gathered_with(alloc: Global, start: &[u8], end: &[u8]) -> Result<Replies, Fail> {
     let mut gather = Gather::new(alloc, &part(alloc, Op::Scan)?)?;
+    let resume = span(alloc, start, end)?;
     put(alloc, &mut gather, Op::Scan, b'a', Some(resume))?;
     Ok(gather.take())
 }
@@ -248,7 +262,6 @@ fn each_request_has_its_own(rt: HostRuntime) -> Result<(), Fail> {
     for order in ORDERS {
         assert!(rt; gathers_both(rt.alloc(), order, b"abc")?);
     }
-    assert!(rt; gathers_both(rt.alloc(), b"", b"")?);
     Ok(())
 }
 
@@ -256,13 +269,13 @@ fn each_request_has_its_own(rt: HostRuntime) -> Result<(), Fail> {
 fn nothing_put_is_the_empty_reply(rt: HostRuntime) -> Result<(), Fail> {
     assert!(rt; gathers(rt.alloc(), Op::Scan, b"", b"")?);
     assert!(rt; gathers(rt.alloc(), Op::Delete, b"", b"")?);
+    assert!(rt; gathers_both(rt.alloc(), b"", b"")?);
     Ok(())
 }
 
 #[test]
 fn a_resume_span_is_kept(rt: HostRuntime) -> Result<(), Fail> {
-    let alloc = rt.alloc();
-    let span = Span::new(key(alloc, b"a\0")?, key(alloc, b"b")?).map_err(|_| "a span")?;
-    assert!(rt; resumes(&gathered_with(alloc, span)?, b"a\0", b"b"));
+    let replies = gathered_with(rt.alloc(), b"a\0", b"b")?;
+    assert!(rt; resumes(&replies, b"a\0", b"b"));
     Ok(())
 }
