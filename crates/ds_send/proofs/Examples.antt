@@ -45,6 +45,7 @@ a_lookups_first_row_is_the_route = (
     runs = (world, (BothWays, ((refl, refl), refl)), refl);
     floor = refl;
     ahead = refl;
+    block = refl;
     refused = omega arith;
     lost = omega arith;
     refuses = λ h. absurd h;

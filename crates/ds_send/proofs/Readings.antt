@@ -15,7 +15,6 @@ use Rattle.ds_kind.proofs.RequestFacts.{proper_some}
 use Rattle.ds_legal.specs.Legal.{IsLegal}
 use Rattle.ds_cell.specs.Store.{Asker, Store}
 use Rattle.ds_rule.specs.declared.answer.Outcome.{Outcome}
-use Rattle.ds_rule.specs.declared.answer.Outcome.TheVariants as Outcome
 use Rattle.ds_rule.specs.Asking.{Asking, asking, asking_by}
 use Rattle.ds_rule.specs.Clauses.{Stands}
 use Rattle.ds_rule.specs.Law.{IsProperRead, IsReading, LeadsTo}

@@ -1,5 +1,5 @@
 -- A transaction as its client knows it.
-use Rattle.std.specs.Prelude.{ℕ, Option}
+use Rattle.std.specs.Prelude.{Option}
 use Rattle.std.specs.Option.{option_map}
 use Rattle.ds_cell.specs.Store.{Asker}
 use Rattle.ds_send.specs.declared.txn.Txn.{Txn}

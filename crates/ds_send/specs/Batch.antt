@@ -1,11 +1,10 @@
 -- The batches that are built so far.
-use Rattle.std.specs.Prelude.{◌≡◌, ℕ, Bool, true, false, ◌&&◌, ◌||◌, List, [], ◌∷◌, Option, Some, None, is_none, refl}
+use Rattle.std.specs.Prelude.{◌≡◌, Bool, true, false, ◌&&◌, ◌||◌, [], ◌∷◌, Option, Some, None, is_none, refl}
 use Rattle.std.specs.List.{list_all}
 use Rattle.ds_base.specs.declared.value.Stamp.{Stamp}
-use Rattle.ds_base.specs.declared.value.Value.TheVariants.{Int}
 use Rattle.ds_kind.specs.declared.batch.Batch.{Batch}
 use Rattle.ds_kind.specs.declared.request.Request.{Request}
-use Rattle.ds_kind.specs.declared.request.Request.TheVariants.{Get, Scan, ReverseScan, Put, ConditionalPut, InitPut, Increment, Delete, DeleteRange, EndTxn, QueryIntent, ResolveIntent, ResolveIntentRange, AdminSplit, AdminTransferLease}
+use Rattle.ds_kind.specs.declared.request.Request.TheVariants.{Get, Scan, Put, ConditionalPut, InitPut, Increment, Delete, DeleteRange}
 
 -- a get or a scan that goes forward
 abbrev pub is_plain_read : Request → Bool

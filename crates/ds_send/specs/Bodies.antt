@@ -2,7 +2,7 @@
 use Rattle.std.specs.Prelude.{ℕ, List, [], ◌++◌, Option, Some, None}
 use Rattle.ds_kind.specs.declared.reply.Row.{Row}
 use Rattle.ds_kind.specs.declared.reply.Body.{Body}
-use Rattle.ds_kind.specs.declared.reply.Body.TheVariants.{Got, Rows, Unit as Done, Number, Gone, Ended, Found}
+use Rattle.ds_kind.specs.declared.reply.Body.TheVariants.{Rows, Gone}
 
 abbrev pub rows_in : Body → List Row
 rows_in (Rows rows) = rows

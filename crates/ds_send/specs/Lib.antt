@@ -1,6 +1,9 @@
 pub mod Asked
 pub mod Batch
+pub mod Batched
 pub mod Bodies
+pub mod Moving
 pub mod Routed
 pub mod Sender
 pub mod Sent
+pub mod Settled

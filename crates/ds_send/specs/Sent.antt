@@ -1,5 +1,5 @@
 -- What one batch comes to, and what its steps were.
-use Rattle.std.specs.Prelude.{◌≡◌, ℕ, ◌+◌, ◌≤◌, Bool, true, false, ◌&&◌, List, [], ◌∷◌, ◌++◌, Option, Some, None, is_some, ◌<◌, ◌⊎◌, not, length, if◌then◌else◌, refl, pos}
+use Rattle.std.specs.Prelude.{◌≡◌, ℕ, ◌+◌, ◌≤◌, Bool, true, false, ◌&&◌, List, [], ◌∷◌, ◌++◌, Option, Some, None, is_some, ◌<◌, ◌⊎◌, not, length, refl, pos}
 use Rattle.std.specs.List.{list_any, list_all}
 use Rattle.ds_base.specs.Order.{key_lt, key_le, IsKey}
 use Rattle.ds_base.specs.declared.value.Stamp.{Stamp}
@@ -13,25 +13,19 @@ use Rattle.ds_kind.specs.declared.illegal.Illegal.{Illegal}
 use Rattle.ds_kind.specs.declared.reply.Body.{Body}
 use Rattle.ds_kind.specs.declared.reply.Reply.{Reply}
 use Rattle.ds_kind.specs.declared.reply.Failure.{Failure}
-use Rattle.ds_kind.specs.declared.reply.Failure.TheVariants as Failure
-use Rattle.ds_legal.specs.Rules.{first_illegal}
 use Rattle.ds_cell.specs.Content.{Rises}
 use Rattle.ds_cell.specs.Store.{Asker, Store}
 use Rattle.ds_rule.specs.declared.answer.Outcome.{Outcome}
-use Rattle.ds_rule.specs.declared.answer.Outcome.TheVariants as Outcome
-use Rattle.ds_rule.specs.Asking.{Asking, asking}
-use Rattle.ds_rule.specs.Cause.{Trip, LastFails, CauseOf, WholeCauseOf, LastLost, LastServes, TooWide, IsHeldBack, IsWholeOf}
+use Rattle.ds_rule.specs.Asking.{Asking}
+use Rattle.ds_rule.specs.Cause.{Trip, LastFails, LastLost, LastServes, TooWide, IsHeldBack, IsWholeOf}
 use Rattle.ds_rule.specs.Clauses.{Stands}
 use Rattle.ds_rule.specs.Gathered.{IsBody, Joins}
 use Rattle.ds_rule.specs.Journal.{Happening, Accepted, Moved, Did as Stepped}
-use Rattle.ds_rule.specs.Law.{Did, DidWhole, IsGiven, IsPlainFor, IsQuiet, LeadsTo, MayAct, PlainCause}
-use Rattle.ds_rule.specs.Path.{Path}
-use Rattle.ds_rule.specs.Pieces.{Each, position_of, IsOneOf}
+use Rattle.ds_rule.specs.Law.{Did, DidWhole, IsPlainFor, IsQuiet, LeadsTo, MayAct, PlainCause}
+use Rattle.ds_rule.specs.Pieces.{Each, position_of}
 use Rattle.ds_rule.specs.StandsFor.{StandsFor, Ready}
 use Rattle.ds_send.specs.declared.pieces.Went.{Went}
-use Rattle.ds_send.specs.declared.pieces.Went.TheVariants as Went
 use Rattle.ds_send.specs.declared.requests.Got.{Got}
-use Rattle.ds_send.specs.declared.requests.Got.TheVariants as Got
 use Rattle.ds_send.specs.declared.tries.Tries.{Tries}
 use Rattle.ds_base.specs.declared.value.Value.TheVariants.{Int}
 use Rattle.ds_kind.specs.declared.batch.Piece.{Piece}
@@ -40,7 +34,6 @@ use Rattle.ds_kind.specs.declared.request.Request.TheVariants.{Get, Put}
 use Rattle.ds_rule.specs.declared.answer.Answer.TheVariants as Answer
 use Rattle.ds_rule.specs.declared.journal.JournalStep.TheVariants.{Look, Send}
 use Rattle.ds_send.specs.declared.whole.Tried.{Tried}
-use Rattle.ds_send.specs.declared.whole.Tried.TheVariants as Tried
 
 abbrev pub outcome_of : Failure → Outcome
 outcome_of (Failure.Condition i v) = Outcome.ConditionFailed i v

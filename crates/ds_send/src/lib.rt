@@ -6,6 +6,8 @@ mod asked;
 mod batch;
 mod bodies;
 mod failure;
+mod moving;
+mod parts;
 mod pieces;
 mod requests;
 mod route;

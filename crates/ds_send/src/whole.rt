@@ -79,7 +79,7 @@ fn widened(alloc: Global, span: Span, items: &[Item]) -> Result<Span, AllocError
 }
 
 /// The least span that holds those of all requests.
-fn whole_span(alloc: Global, items: &Items) -> Result<Span, AllocError>
+pub(crate) fn whole_span(alloc: Global, items: &Items) -> Result<Span, AllocError>
     requires some { 0 < length items.now }
     requires proper { list_all has_proper_span (requests_of items.now) ≡ true }
     ensures span { IfOk result (λ s. s ≡ whole_span items.now) }

@@ -1,4 +1,4 @@
-use Rattle.std.proofs.Common.{◌≡◌, ◌<◌, ◌+◌, ◌++◌, ◌∷◌, true, sym, [], subst, rules, length, get_or, take, None}
+use Rattle.std.proofs.Common.{◌≡◌, ◌<◌, ◌+◌, ◌++◌, ◌∷◌, sym, [], subst, rules, length, get_or, take, None}
 use Rattle.ds_kind.specs.Request.{span_of}
 use Rattle.ds_kind.proofs.RequestFacts.{proper_some}
 use Rattle.ds_rule.specs.Law.{Did}
