@@ -1,4 +1,4 @@
--- The steps of a batch leave the count of events.
+-- The steps of a batch leave the count of events, and the block's events.
 use Rattle.std.proofs.Common.{◌≡◌, ℕ, Bool, true, false, List, [], ◌∷◌, ◌++◌, map, Option, Some, None, inl, inr, refl, sym, ap, ◌∙◌, subst}
 use Rattle.ds_desc.specs.declared.meta.Looked.TheVariants as Looked
 use Rattle.ds_kind.specs.declared.batch.Batch.{Batch}
@@ -11,7 +11,7 @@ use Rattle.ds_rule.specs.declared.answer.Outcome.{Outcome}
 use Rattle.ds_rule.specs.declared.journal.Entry.{Entry}
 use Rattle.ds_rule.specs.declared.journal.JournalStep.{JournalStep}
 use Rattle.ds_rule.specs.declared.journal.JournalStep.TheVariants.{Look, Send}
-use Rattle.ds_rule.specs.Asking.{Asking}
+use Rattle.ds_rule.specs.Asking.{Asking, asking}
 use Rattle.ds_rule.specs.Clauses.{Stands}
 use Rattle.ds_rule.specs.Deliver.{deliver_world}
 use Rattle.ds_rule.specs.Journal.{Did as Stepped, Does, Runs, Accepted}
@@ -61,3 +61,19 @@ asked-count a c budget t b n log after who by =
     let k = is-asked t b who in
     ap (λ z. z.world.count) by.last ∙ by-count (first_illegal b) budget b k.0 (begun_block a t b) by.mid by.steps by.outcome refl by.past by.ruled
     (subst (λ x. Sent (first_illegal b) budget b x (begun_block a t b) by.mid by.outcome) k.1 by.sent)
+
+-- ---- the block's events
+
+sent-block : (w : Bool) (budget : ℕ) (q : Asking) (a b : Stands) (o : Outcome) → SentBy w budget q a b o → b.block ≡ a.block
+sent-block true budget q a b o sent = sent.did.path.block
+sent-block false budget q a b o sent = sent.path.block
+
+by-block : (i : Option Illegal) (budget : ℕ) (b : Batch) (q : Asking) (x y : Stands) (o : Outcome) → Ruled i o x y → Sent i budget b (Some q) x y o → y.block ≡ x.block
+by-block (Some i) budget b q x y o ruled sent = ap (λ z. z.block) ruled.1
+by-block None budget b q x y o ruled sent = sent-block (is_whole b) budget q x y o sent
+
+-- a batch leaves the block's events
+pub asked-block : (budget : ℕ) (t : Option Asker) (b : Batch) (x y : Stands) (o : Outcome) → IsOpenFor b.at t → Ruled (first_illegal b) o x y → Sent (first_illegal b) budget b (asking t b) x y o → y.block ≡ x.block
+asked-block budget t b x y o who ruled sent =
+    let k = is-asked t b who in
+    by-block (first_illegal b) budget b k.0 x y o ruled (subst (λ q. Sent (first_illegal b) budget b q x y o) k.1 sent)

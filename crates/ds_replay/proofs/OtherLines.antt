@@ -53,7 +53,7 @@ quiet-line old new l s v p q j g n c at = record { played = v; next = q; journal
 
 -- the cluster
 
-pub cluster-line : {budget : ℕ} (sim : Sim) (c : Cluster) (s : Played) (p : Store) → tiles c.ranges ≡ true → list_all is_leased c.ranges ≡ true → state_of sim ≡ record { world = first_world c.ranges; past = []; floor = 0; refused = 0; lost = 0; ahead = [] } → StandsAt State.Start s p → LineTaken budget State.Start (State.Closed sim 0) (lines.Cluster c) None s p
+pub cluster-line : {budget : ℕ} (sim : Sim) (c : Cluster) (s : Played) (p : Store) → tiles c.ranges ≡ true → list_all is_leased c.ranges ≡ true → state_of sim ≡ record { world = first_world c.ranges; past = []; floor = 0; refused = 0; lost = 0; ahead = []; block = [] } → StandsAt State.Start s p → LineTaken budget State.Start (State.Closed sim 0) (lines.Cluster c) None s p
 cluster-line sim c s p tile leased is at =
     quiet-line State.Start (State.Closed sim 0) (lines.Cluster c) s (record { world = first_world c.ranges; asks = s.asks }) p p (refl, refl) (tt, refl) refl tt (
       record {

@@ -4,6 +4,8 @@ use Rattle.ds_base.proofs.SmallFacts.{and_first, and_second, le_of, lt_of}
 use Rattle.ds_rule.proofs.Eachs.{each-append}
 use Rattle.ds_cell.specs.Store.{Store, empty_store}
 use Rattle.ds_rule.specs.declared.journal.Entry.{Entry}
+use Rattle.ds_rule.specs.Clauses.{Stands}
+use Rattle.ds_sim.specs.State.{state_of}
 use Rattle.ds_script.specs.declared.line.Line.{Line}
 use Rattle.ds_script.specs.declared.line.Numbered.{Numbered}
 use Rattle.ds_script.specs.Journals.{Played, JournalTurn, GatherTurn, first_played, no_asks, LegalJournal, AllGathered}
@@ -14,7 +16,7 @@ use Rattle.ds_replay.specs.declared.state.State.{State}
 use Rattle.ds_replay.specs.Built.{Stage, first_unbuilt, goes_on, next_stage, unbuilt_from}
 use Rattle.ds_replay.specs.Causes.{CauseTurn, first_told}
 use Rattle.ds_replay.specs.Comes.{AllMayCome, EntryMayCome}
-use Rattle.ds_replay.specs.Stages.{IsWithin, StandsAt, stage_of}
+use Rattle.ds_replay.specs.Stages.{IsCalm, IsWithin, StandsAt, stage_of}
 use Rattle.ds_replay.specs.Taken.{Taken, listed}
 
 -- a line after others
@@ -80,10 +82,13 @@ goes-some (Some s) n more h = refl
 pub replay-built : {budget : ℕ} (done ahead : List Numbered) (n : ℕ) (state : State) (log : List Entry) (l : Numbered) → Replaying budget done (l ∷ ahead) n state log → IsSome (next_stage (stage_of state) l.line)
 replay-built done ahead n state log l r = goes-some (next_stage (stage_of state) l.line) l.number (unbuilt_from ahead) r.built
 
+calm-more : (a : Stands) (n m : ℕ) → n ≤ m → IsCalm a n → IsCalm a m
+calm-more a n m le calm = let low : a.world.count ≤ n = calm.count in record { count = omega (arith, le, low); block = calm.block }
+
 within-more : (state : State) (n m : ℕ) → n ≤ m → IsWithin state n → IsWithin state m
 within-more State.Start n m le h = tt
-within-more (State.Closed sim begun) n m le h = let a = h.0 in let b = h.1 in (omega (arith, le, a), omega (arith, le, b))
-within-more (State.Open sim txn begun) n m le h = let a = h.0 in let b = h.1 in (omega (arith, le, a), omega (arith, le, b), h.2)
+within-more (State.Closed sim begun) n m le h = let a = h.0 in let b = h.1 in (calm-more (state_of sim) n m le a, omega (arith, le, b))
+within-more (State.Open sim txn begun) n m le h = let a = h.0 in let b = h.1 in (calm-more (state_of sim) n m le a, omega (arith, le, b), h.2)
 
 pub replay-within : {budget : ℕ} (done ahead : List Numbered) (n : ℕ) (state : State) (log : List Entry) (l : Numbered) → Replaying budget done (l ∷ ahead) n state log → IsWithin state 20000
 replay-within done ahead n state log l r = let few : n + length (l ∷ ahead) ≤ 20000 = r.few in within-more state n 20000 (omega (arith, few)) r.within

@@ -1,5 +1,5 @@
 -- What the replay of each line makes.
-use Rattle.std.proofs.Common.{◌≡◌, ℕ, ◌+◌, ◌<◌, ◌≤◌, Bool, true, false, ◌&&◌, List, [], ◌∷◌, ◌++◌, Option, Some, None, is_some, IsSome, if◌then◌else◌, length, nat_le, refl, sym, ap, ◌∙◌, subst, arith}
+use Rattle.std.proofs.Common.{◌≡◌, ℕ, ◌+◌, ◌-◌, ◌^◌, ◌<◌, ◌≤◌, Bool, true, false, ◌&&◌, List, [], ◌∷◌, ◌++◌, Option, Some, None, is_some, IsSome, if◌then◌else◌, length, nat_le, refl, sym, ap, ◌∙◌, subst, arith}
 use Rattle.std.specs.List.{list_all}
 use Rattle.ds_base.proofs.SmallFacts.{and_first, and_second, le_of}
 use Rattle.ds_base.specs.declared.key.Key.{Key}
@@ -14,6 +14,7 @@ use Rattle.ds_rule.specs.declared.event.Event.TheVariants.{Write}
 use Rattle.ds_rule.specs.declared.journal.Entry.{Entry}
 use Rattle.ds_rule.specs.declared.journal.Entry.TheVariants as entries
 use Rattle.ds_rule.specs.Begin.{first_world, is_leased, tiles}
+use Rattle.ds_rule.specs.Clauses.{Stands}
 use Rattle.ds_rule.specs.Close.{with_begin, closed, close_status}
 use Rattle.ds_rule.specs.Moves.{moved}
 use Rattle.ds_script.specs.declared.line.Line.{Line}
@@ -30,7 +31,7 @@ use Rattle.ds_sim.specs.State.{state_of}
 use Rattle.ds_replay.specs.declared.state.State.{State}
 use Rattle.ds_replay.specs.Asked.{AskedBy}
 use Rattle.ds_replay.specs.Built.{Stage, Start, Closed, Open, next_stage, is_cluster, is_quiet, is_sent, may_stand_by}
-use Rattle.ds_replay.specs.Stages.{StandsAt}
+use Rattle.ds_replay.specs.Stages.{IsCalm, IsWithin, StandsAt}
 use Rattle.ds_replay.specs.Taken.{LineTaken, Taken}
 use Rattle.ds_replay.proofs.Batches.{asked-closed, asked-open}
 use Rattle.ds_replay.proofs.Counts.{asked-count}
@@ -69,7 +70,7 @@ cluster-begun c l is built =
       stage = sym (ap (next_stage Start) is ∙ ap (λ t. if t then Some Closed else None) fits);
     }
 
-pub cluster-taken : {budget : ℕ} (sim : Sim) (c : Cluster) (l : Numbered) (log : List Entry) → l.line ≡ lines.Cluster c → IsSome (next_stage Start l.line) → state_of sim ≡ record { world = first_world c.ranges; past = []; floor = 0; refused = 0; lost = 0; ahead = [] } → Taken budget State.Start (State.Closed sim 0) l log log
+pub cluster-taken : {budget : ℕ} (sim : Sim) (c : Cluster) (l : Numbered) (log : List Entry) → l.line ≡ lines.Cluster c → IsSome (next_stage Start l.line) → state_of sim ≡ record { world = first_world c.ranges; past = []; floor = 0; refused = 0; lost = 0; ahead = []; block = [] } → Taken budget State.Start (State.Closed sim 0) l log log
 cluster-taken sim c l log is built made =
     let begun = cluster-begun c l is built in
     silent State.Start (State.Closed sim 0) l (lines.Cluster c) log is refl (λ s p at. cluster-line sim c s p begun.tiled begun.leased made at)
@@ -112,18 +113,47 @@ asked-open-taken sim new txn begun budget b block l log after is built fresh tri
     spoken (State.Open sim txn begun) (State.Open new txn begun) l (lines.Batch b block) log after (entries.Batch l.number by.steps by.outcome) is (refl, refl) by.logged
     (λ s p at. asked-open sim new txn begun budget b block l.number log after s p by tries (some-if _ (Open txn.stamp.0) (built-line (Open txn.stamp.0) l (lines.Batch b block) is built)) (open-for b.at txn fresh) at)
 
--- events are counted as before
+-- ---- events are counted, and no block is under way
 
-pub count-open : (sim new : Sim) (txn : Txn) (budget : ℕ) (b : Batch) (n : ℕ) (log after : List Entry) → txn.last.0 ≡ 0 → AskedBy (state_of sim) (state_of new) budget (Some (asker_of txn)) b n log after → new.count ≡ sim.count
-count-open sim new txn budget b n log after fresh by = asked-count (state_of sim) (state_of new) budget (Some (asker_of txn)) b n log after (open-for b.at txn fresh) by
+-- after a batch as before
+pub count-open : (sim new : Sim) (txn : Txn) (budget : ℕ) (b : Batch) (n : ℕ) (log after : List Entry) → txn.last.0 ≡ 0 → AskedBy (state_of sim) (state_of new) budget (Some (asker_of txn)) b n log after → ((state_of new).world.count ≡ (state_of sim).world.count) × ((state_of new).block ≡ [])
+count-open sim new txn budget b n log after fresh by =
+    (asked-count (state_of sim) (state_of new) budget (Some (asker_of txn)) b n log after (open-for b.at txn fresh) by, ap (λ z. z.block) by.last)
 
-pub count-closed : (sim new : Sim) (budget : ℕ) (b : Batch) (block : Block) (l : Numbered) (log after : List Entry) → l.line ≡ lines.Batch b block → IsSome (next_stage Closed l.line) → AskedBy (state_of sim) (state_of new) budget None b l.number log after → new.count ≡ sim.count
-count-closed sim new budget b block l log after is built by =
-    asked-count (state_of sim) (state_of new) budget None b l.number log after
-    (alone-for b.at (and_first (is_some b.at) _ (some-if (is_some b.at && is_sent b block) Closed (built-line Closed l (lines.Batch b block) is built)))) by
+pub count-closed : (sim new : Sim) (budget : ℕ) (b : Batch) (block : Block) (l : Numbered) (log after : List Entry) → l.line ≡ lines.Batch b block → IsSome (next_stage Closed l.line) → AskedBy (state_of sim) (state_of new) budget None b l.number log after → ((state_of new).world.count ≡ (state_of sim).world.count) × ((state_of new).block ≡ [])
+count-closed sim new budget b block l log after is built by = (
+  asked-count (state_of sim) (state_of new) budget None b l.number log after
+      (alone-for b.at (and_first (is_some b.at) _ (some-if (is_some b.at && is_sent b block) Closed (built-line Closed l (lines.Batch b block) is built)))) by,
+  ap (λ z. z.block) by.last,
+)
 
-pub one-more : (sim new : Sim) (m : ℕ) → new.count ≡ sim.count → sim.count ≤ m → new.count ≤ m + 1
-one-more sim new m same h = omega (arith, same, h)
+pub calm-asked : (a b : Stands) (n : ℕ) → b.world.count ≡ a.world.count → b.block ≡ [] → IsCalm a n → IsCalm b (n + 1)
+calm-asked a b n same none calm = let low : a.world.count ≤ n = calm.count in record { count = omega (arith, same, low); block = none }
+
+pub calm-write : (a b : Stands) (n : ℕ) (k : Key) (t : Stamp) (v : Option Value) → b ≡ record a { world = moved a.world (Write k t v) } → IsCalm a n → IsCalm b (n + 1)
+calm-write a b n k t v is calm =
+    let low : a.world.count ≤ n = calm.count in
+    let more : b.world.count ≡ a.world.count + 1 = ap (λ z. z.world.count) is in
+    record { count = omega (arith, more, low); block = ap (λ z. z.block) is ∙ calm.block }
+
+pub calm-close : (a b : Stands) (n : ℕ) → b ≡ record a { world = closed a.world } → IsCalm a n → IsCalm b (n + 1)
+calm-close a b n is calm = calm-asked a b n (ap (λ z. z.world.count) is) (ap (λ z. z.block) is ∙ calm.block) calm
+
+pub begin-within : (sim new : Sim) (begun : ℕ) (txn : Txn) (n : ℕ) (t : Stamp) → txn ≡ record { number = record { 0 = begun + 1 }; stamp = t; epoch = 0; last = record { 0 = 0 } } → state_of new ≡ record (state_of sim) { world = with_begin (record { number = begun + 1; stamp = t.0; epoch = 0; last = 0 }) (state_of sim).world } → IsWithin (State.Closed sim begun) n → IsWithin (State.Open new txn (begun + 1)) (n + 1)
+begin-within sim new begun txn n t who is h = (
+  calm-asked (state_of sim) (state_of new) n (ap (λ z. z.world.count) is) (ap (λ z. z.block) is ∙ h.0.block) h.0,
+  (let low : begun ≤ n = h.1 in omega (arith, low)),
+  ap (λ z. z.last.0) who,
+)
+
+pub within-few : (a : Stands) → IsCalm a 20000 → a.world.count + length a.block < 2 ^ 64 - 1
+within-few a calm =
+    let low : a.world.count ≤ 20000 = calm.count in
+    let none : length a.block ≡ 0 = ap length calm.block in
+    omega (arith, low, none)
+
+pub within-fits : (a : Stands) → IsCalm a 20000 → a.world.count < 2 ^ 64
+within-fits a calm = let low : a.world.count ≤ 20000 = calm.count in omega (arith, low)
 
 pub more : (n m : ℕ) → n ≤ m → n ≤ m + 1
 more n m h = omega (arith, h)

@@ -21,9 +21,9 @@ floor_of None (Some s) = s.0
 floor_of (Some t) None = t.stamp
 floor_of (Some t) (Some s) = max t.stamp s.0
 
--- the wire as a block begins, in which no picks are to come
+-- the wire as a block begins, in which no events and no picks are to come
 abbrev pub begun_block : Stands → Option Asker → Batch → Stands
-begun_block a t b = record a { past = []; floor = floor_of t b.at; ahead = [] }
+begun_block a t b = record a { past = []; floor = floor_of t b.at; ahead = []; block = [] }
 
 -- the batch was sent in a block of its own, and its steps and its outcome were noted
 pub record AskedBy (a c : Stands) (budget : ℕ) (t : Option Asker) (b : Batch) (n : ℕ) (log after : List Entry) : Type 0 where
@@ -32,7 +32,7 @@ pub record AskedBy (a c : Stands) (budget : ℕ) (t : Option Asker) (b : Batch) 
   pub mid : Stands
   pub given : IsGiven outcome
   pub past : mid.past ≡ map Did steps
-  pub last : c ≡ record mid { past = []; ahead = [] }
+  pub last : c ≡ record mid { past = []; ahead = []; block = [] }
   pub ruled : Ruled (first_illegal b) outcome (begun_block a t b) mid
   pub sent : Sent (first_illegal b) budget b (asking t b) (begun_block a t b) mid outcome
   pub plain : Plain (first_illegal b) b (asking t b) (begun_block a t b) mid outcome

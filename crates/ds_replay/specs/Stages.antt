@@ -1,6 +1,7 @@
 -- How far a replay has come.
-use Rattle.std.specs.Prelude.{◌≡◌, ℕ, ◌≤◌, Option, Some, None}
+use Rattle.std.specs.Prelude.{◌≡◌, ℕ, ◌≤◌, [], Option, Some, None}
 use Rattle.ds_cell.specs.Store.{Store, StoreTxn, Pending, empty_store}
+use Rattle.ds_rule.specs.Clauses.{Stands}
 use Rattle.ds_rule.specs.StandsFor.{StandsFor, IsKnown}
 use Rattle.ds_rule.specs.Steady.{Steady}
 use Rattle.ds_script.specs.Journals.{Played, first_played}
@@ -40,8 +41,13 @@ StandsAt State.Start s p = (s ≡ first_played) × (p ≡ empty_store)
 StandsAt (State.Closed sim begun) s p = IsIn sim begun s p × (s.asks.asker ≡ None) × (p.txn ≡ None)
 StandsAt (State.Open sim txn begun) s p = IsIn sim begun s p × (s.asks.asker ≡ Some (asker_of txn)) × HasOpen txn p.txn
 
--- no more events and transactions than lines
+-- so many events were made at most, and no block is under way
+pub record IsCalm (a : Stands) (n : ℕ) : Type 0 where
+  pub count : a.world.count ≤ n
+  pub block : a.block ≡ []
+
+-- no more events and transactions than lines, and no block is under way between them
 abbrev pub IsWithin : State → ℕ → Type 0
 IsWithin State.Start n = Unit {0}
-IsWithin (State.Closed sim begun) n = (sim.count ≤ n) × (begun ≤ n)
-IsWithin (State.Open sim txn begun) n = (sim.count ≤ n) × (begun ≤ n) × (txn.last.0 ≡ 0)
+IsWithin (State.Closed sim begun) n = IsCalm (state_of sim) n × (begun ≤ n)
+IsWithin (State.Open sim txn begun) n = IsCalm (state_of sim) n × (begun ≤ n) × (txn.last.0 ≡ 0)

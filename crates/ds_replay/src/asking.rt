@@ -1,7 +1,8 @@
 //! One batch of a replay.
-ghost use Rattle.std.specs.Prelude.{◌≡◌, ◌++◌, ◌∷◌, [], true, IfOk, OnOk, MatchResult};
+ghost use Rattle.std.specs.Prelude.{◌≡◌, ◌<◌, ◌^◌, ◌++◌, ◌∷◌, [], true, map, IfOk, OnOk, MatchResult};
 ghost use Rattle.ds_cell.specs.Store.{Asker};
 ghost use Rattle.ds_rule.specs.declared.journal.Entry.TheVariants as entries;
+ghost use Rattle.ds_rule.specs.Journal.{Did};
 ghost use Rattle.ds_rule.specs.Law.{IsGiven};
 ghost use Rattle.ds_send.specs.Asked.{asker_in};
 ghost use Rattle.ds_send.specs.Batch.{is_built};
@@ -42,10 +43,20 @@ fn given(outcome: Outcome) -> Result<Outcome, AllocError>
 
 /// Begins a block beside which nothing happens, and in which no piece is picked.
 fn begin_quiet(alloc: Global, sim: &mut Sim, block: &Block, floor: Stamp) -> Result<(), AllocError>
-    requires { is_quiet block.now ≡ true }
-    ensures { OnOk result (state_of sim.new ≡ record (state_of sim.old) { past = []; floor = floor.0; ahead = [] }) }
+    requires quiet { is_quiet block.now ≡ true }
+    requires few { (state_of sim.old).world.count < 2 ^ 64 }
+    ensures { OnOk result (state_of sim.new ≡ record (state_of sim.old) { past = []; floor = floor.0; ahead = []; block = [] }) }
 {
     sim.start_block(alloc, block, floor)
+}
+
+/// Ends a block in which nothing happened but its steps, and gives these.
+fn end_quiet(alloc: Global, sim: &mut Sim) -> Result<JournalSteps, AllocError>
+    requires { (state_of sim.old).block ≡ [] }
+    ensures past { IfOk result (λ ss. (state_of sim.old).past ≡ map Did ss) }
+    ensures state { OnOk result (state_of sim.new ≡ record (state_of sim.old) { past = []; ahead = []; block = [] }) }
+{
+    sim.end_block(alloc)
 }
 
 /// Notes a batch's steps and what it came to.
@@ -84,6 +95,7 @@ pub(crate) fn ask(
     log: &mut RunLog,
 ) -> Result<(), AllocError>
     requires quiet { is_quiet block.now ≡ true }
+    requires few { (state_of sim.old).world.count < 2 ^ 64 }
     requires built { is_built batch.now ≡ true }
     requires open { IsOpenFor batch.now.at (asker_in txn) }
     requires texts { has_texts log.old ≡ true }
@@ -95,6 +107,6 @@ pub(crate) fn ask(
     let floor = floor_of(&open, batch.at);
     begin_quiet(alloc, sim, block, floor)?;
     let outcome = given(sender.send(alloc, sim, &mut open, batch))?;
-    let steps = sim.end_block(alloc);
+    let steps = end_quiet(alloc, sim)?;
     note(alloc, log, line, steps, outcome)
 }

@@ -1,6 +1,7 @@
 //! The lines of a script, one after another.
-ghost use Rattle.std.specs.Prelude.{◌≡◌, ◌<◌, ◌≤◌, ◌+◌, ◌^◌, ◌-◌, ◌++◌, ◌∷◌, [], true, Some, None, ℕ, IfOk, OnOk, IsSome};
+ghost use Rattle.std.specs.Prelude.{◌≡◌, ◌<◌, ◌≤◌, ◌+◌, ◌^◌, ◌-◌, ◌++◌, ◌∷◌, [], true, Some, None, ℕ, length, IfOk, OnOk, IsSome};
 ghost use Rattle.ds_base.specs.Order.{key_lt, bound};
+ghost use Rattle.ds_kind.specs.Asks.{has_room};
 ghost use Rattle.ds_cell.specs.Store.{Store};
 ghost use Rattle.ds_rule.specs.declared.event.Event.TheVariants.{Write};
 ghost use Rattle.ds_rule.specs.declared.journal.Entry.TheVariants as entries;
@@ -18,12 +19,32 @@ ghost use Rattle.ds_replay.specs.declared.state.State.TheVariants as State;
 
 use crate::asking::ask;
 use crate::state::State;
-use ds_base::{Copies, TxnNo};
-use ds_rule::{Entry, RunLog};
+use ds_base::{Copies, Key, Stamp, TxnNo, Value};
+use ds_rule::{Entry, Event, RunLog};
 use ds_script::{Line, Numbered};
 use ds_send::{Sender, Txn};
 use ds_sim::Sim;
 use std::alloc::{AllocError, Global};
+
+/// A write of another client, at a key with room for one more byte.
+fn write(
+    alloc: Global,
+    sim: &mut Sim,
+    key: &Key,
+    stamp: Stamp,
+    value: &Option<Value>,
+) -> Result<(), AllocError>
+    requires room { has_room key.now ≡ true }
+    requires few { (state_of sim.old).world.count + length (state_of sim.old).block < 2 ^ 64 - 1 }
+    ensures { OnOk result (state_of sim.new ≡ record (state_of sim.old) { world = moved (state_of sim.old).world (Write key.now stamp value.now) }) }
+{
+    let event = Event::Write {
+        key: key.copy(alloc)?,
+        stamp,
+        value: value.copy(alloc)?,
+    };
+    sim.event(alloc, &event)
+}
 
 /// Notes how a transaction was closed.
 fn note_close(alloc: Global, sim: &mut Sim, line: u32, log: &mut RunLog) -> Result<(), AllocError>
@@ -72,7 +93,7 @@ fn from_closed(
     let mut sim = sim;
     match &numbered.line {
         Line::Write { key, stamp, value } => {
-            sim.write(alloc, key, *stamp, value.copy(alloc)?)?;
+            write(alloc, &mut sim, key, *stamp, value)?;
             Ok(State::Closed { sim, begun })
         }
         Line::Begin { stamp, .. } => {
@@ -121,7 +142,7 @@ fn from_open(
     let mut sim = sim;
     match &numbered.line {
         Line::Write { key, stamp, value } => {
-            sim.write(alloc, key, *stamp, value.copy(alloc)?)?;
+            write(alloc, &mut sim, key, *stamp, value)?;
             Ok(State::Open { sim, txn, begun })
         }
         Line::Batch { batch, block } => {

@@ -15,6 +15,7 @@ use Rattle.ds_rule.specs.declared.event.Block.{Block}
 use Rattle.ds_rule.specs.declared.event.Event.{Event}
 use Rattle.ds_rule.specs.declared.event.Event.TheVariants as events
 use Rattle.ds_rule.specs.declared.event.Timed.{Timed}
+use Rattle.ds_rule.specs.Blocks.{never_fall}
 use Rattle.ds_fields.specs.declared.fault.FaultKind.{FaultKind}
 use Rattle.ds_fields.specs.declared.fault.FaultKind.TheVariants.{Range, Order, LowWrite, TxnOpen}
 use Rattle.ds_fields.specs.Fault.{◌>>=◌}
@@ -59,11 +60,6 @@ batch_belongs (Some o) (Some s) rs = list_all (may_stand_beside o.stamp.0 s.0) r
 abbrev pub event_belongs : Option OpenTxn → Event → Bool
 event_belongs txn events.Abort = is_some txn
 event_belongs txn _ = true
-
--- the steps of the events never fall; `last` is the one before
-abbrev pub never_fall : ℕ → List Timed → Bool
-never_fall last [] = true
-never_fall last (t ∷ ts) = nat_le last t.at && never_fall t.at ts
 
 abbrev pub block_belongs : Option OpenTxn → Block → Bool
 block_belongs txn b = never_fall 0 b.events && list_all (λ t. event_belongs txn t.event) b.events

@@ -2,7 +2,8 @@
 ghost use Rattle.std.specs.Prelude.{◌≡◌};
 ghost use Rattle.std.specs.List.{list_all};
 ghost use Rattle.ds_fields.specs.Fault.{Gives};
-ghost use Rattle.ds_script.specs.Rules.{leads, reads_only, may_stand_beside, batch_belongs, event_belongs, never_fall, block_belongs, belongs, number_of, lost_after, claims, copies_after, floor, is_above, high_enough, may_begin, turn};
+ghost use Rattle.ds_rule.specs.Blocks.{never_fall};
+ghost use Rattle.ds_script.specs.Rules.{leads, reads_only, may_stand_beside, batch_belongs, event_belongs, block_belongs, belongs, number_of, lost_after, claims, copies_after, floor, is_above, high_enough, may_begin, turn};
 
 use crate::line::Line;
 use crate::state::{CopySteps, OpenTxn, State, Step};

@@ -1,5 +1,5 @@
 use Rattle.std.proofs.Common.{◌≡◌, drop}
-use Rattle.ds_script.specs.Rules.{never_fall}
+use Rattle.ds_rule.specs.Blocks.{never_fall}
 use Rattle.ds_script.proofs.rules.never_fall.Given as goal
 
 abbrev pub invariant-loop-timed : goal.invariant-loop-timed
