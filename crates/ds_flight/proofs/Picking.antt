@@ -141,6 +141,7 @@ picked-ran f known left a m b es c picks hs same ran =
       grown = r.grown;
       runs = r.runs;
       floor = r.floor;
+      block = r.block;
       high = r.high;
       of = r.of;
       goes = r.goes;

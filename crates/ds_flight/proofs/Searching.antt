@@ -53,6 +53,7 @@ ran-same f known left c a es fs entries = record {
   grown = sym (append_nil a.past);
   runs = refl;
   floor = refl;
+  block = refl;
   high = tt;
   of = tt;
   goes = tt;

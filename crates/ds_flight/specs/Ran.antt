@@ -33,6 +33,7 @@ pub record Ran (f : Flight) (known : List RangeDesc) (left : Option ℕ) (a b : 
   pub grown : b.wire.past ≡ a.wire.past ++ hs
   pub runs : Runs a.wire.world hs b.wire.world
   pub floor : b.wire.floor ≡ a.wire.floor
+  pub block : b.wire.block ≡ a.wire.block
   pub high : Each (IsHigh a.wire.floor) hs
   -- each step is of the part, and each send goes where a known descriptor says
   pub of : AllOfPart f left hs

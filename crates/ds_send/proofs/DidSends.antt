@@ -153,6 +153,7 @@ did-send budget q whole known a b hs o first joined alone e = record {
   grown = e.ran.grown;
   runs = e.ran.runs;
   floor = e.ran.floor;
+  block = e.ran.block;
   high = e.ran.high;
   of = e.ran.of;
   turns = e.ran.turns;

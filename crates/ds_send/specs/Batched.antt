@@ -46,6 +46,7 @@ pub record BatchRan (q : Asking) (whole : Option Extent) (got : List Accepted) (
   pub grown : b.wire.past ≡ a.wire.past ++ hs
   pub runs : Runs a.wire.world hs b.wire.world
   pub floor : b.wire.floor ≡ a.wire.floor
+  pub block : b.wire.block ≡ a.wire.block
   pub high : Each (IsHigh a.wire.floor) hs
   -- each step is of the batch, pieces come in turn at each of their keys, and each send goes where a known descriptor says
   pub of : AllOf q got hs
