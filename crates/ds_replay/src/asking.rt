@@ -15,7 +15,7 @@ ghost use Rattle.ds_replay.specs.Built.{is_quiet};
 use ds_base::Stamp;
 use ds_kind::Batch;
 use ds_rule::{Block, Entry, JournalSteps, Outcome, RunLog};
-use ds_send::{Sender, Txn};
+use ds_send::{FixedSender, Txn};
 use ds_sim::Sim;
 use std::alloc::{AllocError, Global};
 
@@ -87,7 +87,7 @@ fn note(
 pub(crate) fn ask(
     alloc: Global,
     sim: &mut Sim,
-    sender: &mut Sender,
+    sender: &mut FixedSender,
     txn: Option<Txn>,
     line: u32,
     batch: &Batch,

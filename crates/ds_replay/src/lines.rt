@@ -22,7 +22,7 @@ use crate::state::State;
 use ds_base::{Copies, Key, Stamp, TxnNo, Value};
 use ds_rule::{Entry, Event, RunLog};
 use ds_script::{Line, Numbered};
-use ds_send::{Sender, Txn};
+use ds_send::{FixedSender, Txn};
 use ds_sim::Sim;
 use std::alloc::{AllocError, Global};
 
@@ -76,7 +76,7 @@ fn from_closed(
     alloc: Global,
     sim: Sim,
     begun: u32,
-    sender: &mut Sender,
+    sender: &mut FixedSender,
     numbered: &Numbered,
     log: &mut RunLog,
 ) -> Result<State, AllocError>
@@ -125,7 +125,7 @@ fn from_open(
     sim: Sim,
     txn: Txn,
     begun: u32,
-    sender: &mut Sender,
+    sender: &mut FixedSender,
     numbered: &Numbered,
     log: &mut RunLog,
 ) -> Result<State, AllocError>
@@ -171,7 +171,7 @@ fn from_open(
 pub(crate) fn take(
     alloc: Global,
     state: State,
-    sender: &mut Sender,
+    sender: &mut FixedSender,
     numbered: &Numbered,
     log: &mut RunLog,
 ) -> Result<State, AllocError>

@@ -11,7 +11,7 @@ use crate::lines::take;
 use crate::state::State;
 use ds_rule::RunLog;
 use ds_script::{Script, Settings};
-use ds_send::Sender;
+use ds_send::FixedSender;
 use std::alloc::{AllocError, Global};
 
 /// Replays the script against a simulated cluster: the log of its batches and closes. The journal
@@ -27,7 +27,7 @@ pub fn replay(alloc: Global, script: &Script, settings: Settings) -> Result<RunL
     ensures comes { IfOk result (λ log. AllMayCome log) }
     ensures texts { IfOk result (λ log. has_texts log ≡ true) }
 {
-    let mut sender = Sender::new(alloc, settings.cache, settings.budget)?;
+    let mut sender = FixedSender::new(alloc, settings.cache, settings.budget)?;
     let mut log = RunLog::new(alloc);
     let mut state = State::Start;
     'lines: for numbered in script.lines.as_slice() {

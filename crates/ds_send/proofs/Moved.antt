@@ -16,6 +16,7 @@ use Rattle.ds_rule.proofs.Routes.{le_itself}
 use Rattle.ds_rule.specs.Asking.{Asking}
 use Rattle.ds_rule.specs.Path.{holds_span}
 use Rattle.ds_rule.specs.Pieces.{Each}
+use Rattle.ds_rule.specs.Whole.{must_be_whole, span_if}
 use Rattle.ds_rule.specs.declared.answer.Outcome.{Outcome}
 use Rattle.ds_flight.specs.Causes.{GoesOn}
 use Rattle.ds_flight.specs.Goes.{HoldsAll}
@@ -23,7 +24,7 @@ use Rattle.ds_flight.specs.Ran.{Course}
 use Rattle.ds_flight.proofs.Caching.{entries-first}
 use Rattle.ds_mean.specs.Send.{DidSend, WritesAlone}
 use Rattle.ds_send.specs.Batched.{ArePartsOf, IsFlyable, PartsFlown}
-use Rattle.ds_send.specs.Moving.{IsMovable, IsSound, rule_span}
+use Rattle.ds_send.specs.Moving.{IsMovable, IsSound}
 use Rattle.ds_send.specs.Settled.{settled_as}
 use Rattle.ds_send.proofs.DidSends.{GoesWhole, did-send}
 use Rattle.ds_send.proofs.WholeSpan.{whole-held}
@@ -50,14 +51,14 @@ each-free : (parts : List Part) → Each IsSound parts → Each (IsFlyable None)
 each-free [] sound = tt
 each-free (p ∷ ps) sound = (record { some = sound.0.some; proper = sound.0.proper; rise = sound.0.rise; holds = tt }, each-free ps sound.1)
 
-all-flyable : (q : Asking) (parts : List Part) (whole : Bool) → IsMovable q parts whole → Each (IsFlyable (rule_span whole q.items)) parts
+all-flyable : (q : Asking) (parts : List Part) (whole : Bool) → IsMovable q parts whole → Each (IsFlyable (span_if whole q.items)) parts
 all-flyable q parts true m =
     each-flyable (whole_span q.items) parts m.sound
     (held-in (whole_span q.items) parts
     (subst (HoldsAll (whole_span q.items)) (sym m.joined) (whole-held (whole_span q.items) q.items (holds-itself (whole_span q.items)))))
 all-flyable q parts false m = each-free parts m.sound
 
-pub flyable-by : (q : Asking) (parts : List Part) (whole : Bool) (w : Option Extent) → IsMovable q parts whole → w ≡ rule_span whole q.items → Each (IsFlyable w) parts
+pub flyable-by : (q : Asking) (parts : List Part) (whole : Bool) (w : Option Extent) → IsMovable q parts whole → w ≡ span_if whole q.items → Each (IsFlyable w) parts
 flyable-by q parts whole w m is = subst (λ z. Each (IsFlyable z) parts) (sym is) (all-flyable q parts whole m)
 
 -- ---- what it did
@@ -66,7 +67,7 @@ each-fits : (parts : List Part) → Each IsSound parts → Each (λ p. all_fit (
 each-fits [] sound = tt
 each-fits (p ∷ ps) sound = (sound.0.fit, each-fits ps sound.1)
 
-are-parts : (q : Asking) (parts : List Part) (whole : Bool) → IsMovable q parts whole → ArePartsOf q q.head parts
+pub are-parts : (q : Asking) (parts : List Part) (whole : Bool) → IsMovable q parts whole → ArePartsOf q q.head parts
 are-parts q parts whole m = record {
   head_is = refl;
   unlimited = m.unlimited;
@@ -77,19 +78,19 @@ are-parts q parts whole m = record {
   endless = m.endless;
 }
 
-goes-whole : (q : Asking) (parts : List Part) (whole : Bool) (w : Option Extent) → IsMovable q parts whole → w ≡ rule_span whole q.items → WritesAlone q → GoesWhole q w
+goes-whole : (q : Asking) (parts : List Part) (whole : Bool) (w : Option Extent) → IsMovable q parts whole → w ≡ span_if whole q.items → WritesAlone q → GoesWhole q w
 goes-whole q parts whole w m is writes =
     let one = m.alone writes in
     record {
       span = whole_span q.items;
-      is = is ∙ ap (λ b. rule_span b q.items) one.is_whole;
+      is = is ∙ ap (λ b. span_if b q.items) one.is_whole;
       part = one.part;
       one = sym m.parts_are ∙ one.one;
     }
 
 pub moved-so :
     (budget : ℕ) (q : Asking) (parts : List Part) (whole : Bool) (w : Option Extent) (a b : Course) (x : PartOutcome) (o : Outcome)
-    → IsMovable q parts whole → w ≡ rule_span whole q.items → a.counts ≡ first_counts budget → o ≡ settled_as b.counts x
+    → IsMovable q parts whole → w ≡ span_if whole q.items → a.counts ≡ first_counts budget → o ≡ settled_as b.counts x
     → PartsFlown q.head w parts a b x → DidSend budget q a.wire b.wire o
 moved-so budget q parts whole w a b x o m is first settles flown =
     let known = map (λ e. e.1.desc) a.entries in
@@ -104,7 +105,7 @@ begins-on budget c is some = subst GoesOn (sym is) (omega (arith, some))
 
 pub answered-so :
     (budget : ℕ) (q : Asking) (parts : List Part) (whole : Bool) (w : Option Extent) (h : Head) (a b : Course) (x : PartOutcome) (risky : ℕ) (o : Outcome)
-    → IsMovable q parts whole → w ≡ rule_span whole q.items → h ≡ q.head → a.counts ≡ first_counts budget → risky ≡ b.counts.at_risk
+    → IsMovable q parts whole → w ≡ span_if whole q.items → h ≡ q.head → a.counts ≡ first_counts budget → risky ≡ b.counts.at_risk
     → ((c : Counts) → c.at_risk ≡ risky → o ≡ settled_as c x) → PartsFlown h w parts a b x → DidSend budget q a.wire b.wire o
 answered-so budget q parts whole w h a b x risky o m is head first at settles flown =
     moved-so budget q parts whole w a b x o m is first (settles b.counts (sym at)) (subst (λ z. PartsFlown z w parts a b x) head flown)

@@ -1,21 +1,13 @@
 -- Batches that can be sent over ranges that may move.
-use Rattle.std.specs.Prelude.{◌≡◌, ◌<◌, Bool, true, false, List, [], ◌∷◌, length, Option, Some, None}
+use Rattle.std.specs.Prelude.{◌≡◌, ◌<◌, Bool, true, false, List, [], ◌∷◌, length, None}
 use Rattle.std.specs.List.{list_all, list_any}
-use Rattle.ds_base.specs.Order.{Extent}
 use Rattle.ds_kind.specs.Asks.{has_proper_span, is_end}
 use Rattle.ds_kind.specs.Parts.{all_fit, all_items, requests_of}
-use Rattle.ds_kind.specs.WholeSpan.{whole_span}
-use Rattle.ds_kind.specs.declared.batch.Item.{Item}
 use Rattle.ds_kind.specs.declared.batch.Part.{Part}
 use Rattle.ds_cover.specs.Items.{AreProper, PositionsRise}
 use Rattle.ds_rule.specs.Asking.{Asking}
 use Rattle.ds_rule.specs.Pieces.{Each, parts_apart}
 use Rattle.ds_mean.specs.Send.{WritesAlone}
-
--- what must lie in one range, if anything
-abbrev pub rule_span : Bool → List Item → Option Extent
-rule_span true items = Some (whole_span items)
-rule_span false items = None
 
 -- a part with an item, each proper, by rising position, of kinds that may stand together
 pub record IsSound (p : Part) : Type 0 where

@@ -1,7 +1,14 @@
 -- What contracts see of a sender.
-use Rattle.std.specs.Prelude.{ℕ}
+use Rattle.std.specs.Prelude.{ℕ, List}
+use Rattle.ds_cache.specs.Entries.{Entry}
 
--- how many descriptors its cache may hold, and how many refusals and losses a batch may meet
+-- what its cache holds, how many descriptors that may hold, and how many refusals and losses a batch may meet
 pub record SenderState : Type 0 where
+  pub entries : List Entry
+  pub capacity : ℕ
+  pub budget : ℕ
+
+-- of a sender over ranges that stay as they are: how many descriptors it might hold, and the same budget
+pub record FixedState : Type 0 where
   pub capacity : ℕ
   pub budget : ℕ

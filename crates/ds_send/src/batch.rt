@@ -13,7 +13,7 @@ fn is_plain_read(request: &Request) -> bool
     matches!(request, Request::Get(_) | Request::Scan(_))
 }
 
-fn is_value_write(request: &Request) -> bool
+pub(crate) fn is_value_write(request: &Request) -> bool
     ensures { result ≡ is_value_write request.now }
 {
     matches!(

@@ -6,6 +6,8 @@ mod asked;
 mod batch;
 mod bodies;
 mod failure;
+mod fixed;
+mod forms;
 mod moving;
 mod parts;
 mod pieces;
@@ -17,5 +19,7 @@ mod txn;
 mod whole;
 
 pub use batch::{all_plain_reads, is_built};
+pub use fixed::FixedSender;
+pub use forms::can_send;
 pub use sender::Sender;
 pub use txn::Txn;

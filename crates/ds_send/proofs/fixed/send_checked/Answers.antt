@@ -5,7 +5,7 @@ use Rattle.ds_rule.specs.Asking.{asking}
 use Rattle.ds_send.specs.Asked.{asker_in}
 use Rattle.ds_send.specs.Sent.{Plain}
 use Rattle.ds_send.proofs.Readings.{led-illegal}
-use Rattle.ds_send.proofs.sender.send_checked.Goals as goal
+use Rattle.ds_send.proofs.fixed.send_checked.Goals as goal
 
 pub returns-in-Err-clause-plain : goal.returns-in-Err-clause-plain
 returns-in-Err-clause-plain g c =

@@ -5,7 +5,7 @@ use Rattle.ds_send.specs.Asked.{asker_in}
 use Rattle.ds_send.specs.Sent.{is_whole}
 use Rattle.ds_send.proofs.Meaning.{each-sendable, single-sendable, each-means, whole-means, means, single}
 use Rattle.ds_send.proofs.Readings.{reading}
-use Rattle.ds_send.proofs.sender.send_legal.Goals as goal
+use Rattle.ds_send.proofs.fixed.send_legal.Goals as goal
 
 pub returns-then-is_whole-clause-plain : goal.returns-then-is_whole-clause-plain
 returns-then-is_whole-clause-plain g c =
