@@ -1,22 +1,25 @@
 -- A batch that is sent part after part did what the law speaks of.
-use Rattle.std.proofs.Common.{◌≡◌, ℕ, ◌<◌, ◌&&◌, Bool, true, false, List, [], ◌∷◌, map, Option, Some, None, refl, sym, ap, ◌∙◌, subst, arith}
-use Rattle.std.specs.List.{list_all}
+use Rattle.std.proofs.Common.{◌≡◌, ℕ, ◌<◌, ◌&&◌, ◌||◌, Bool, true, false, List, [], ◌∷◌, map, Option, Some, None, is_some, is_none, refl, sym, ap, ◌∙◌, subst, arith}
+use Rattle.std.specs.List.{list_all, list_any}
 use Rattle.std.proofs.lemmas.List.Folds.{list_all-append}
 use Rattle.ds_base.specs.Order.{Extent, key_le}
 use Rattle.ds_base.proofs.SmallFacts.{and_both, and_first, and_second}
+use Rattle.ds_base.specs.declared.value.TxnNo.{TxnNo}
+use Rattle.ds_kind.specs.Asks.{flags_at}
 use Rattle.ds_kind.specs.Parts.{all_fit, all_items, requests_of}
 use Rattle.ds_kind.specs.Request.{span_of}
 use Rattle.ds_kind.specs.WholeSpan.{whole_span}
 use Rattle.ds_kind.specs.declared.batch.Head.{Head}
 use Rattle.ds_kind.specs.declared.batch.Item.{Item}
 use Rattle.ds_kind.specs.declared.batch.Part.{Part}
+use Rattle.ds_kind.specs.declared.request.Request.{Request}
 use Rattle.ds_retry.specs.Counted.{Counts, first_counts}
 use Rattle.ds_retry.specs.declared.outcome.PartOutcome.{PartOutcome}
 use Rattle.ds_rule.proofs.Routes.{le_itself}
 use Rattle.ds_rule.specs.Asking.{Asking}
 use Rattle.ds_rule.specs.Path.{holds_span}
 use Rattle.ds_rule.specs.Pieces.{Each}
-use Rattle.ds_rule.specs.Whole.{must_be_whole, span_if}
+use Rattle.ds_rule.specs.Whole.{any_transactional, must_be_whole, span_if}
 use Rattle.ds_rule.specs.declared.answer.Outcome.{Outcome}
 use Rattle.ds_flight.specs.Causes.{GoesOn}
 use Rattle.ds_flight.specs.Goes.{HoldsAll}
@@ -97,6 +100,21 @@ moved-so budget q parts whole w a b x o m is first settles flown =
     let ended = flown q known (are-parts q parts whole m) (entries-first a.entries) in
     subst (DidSend budget q a.wire b.wire) (sym settles)
     (did-send budget q w known a b ended.0 x first (ap all_items (sym m.parts_are) ∙ m.joined) (goes-whole q parts whole w m is) ended.1)
+
+-- what must see one state, told by items
+
+any-asked : (g : Request → Bool) (items : List Item) → list_any g (requests_of items) ≡ list_any (λ (i : Item). g i.request) items
+any-asked g [] = refl
+any-asked g (i ∷ is) = ap (λ t. g i.request || t) (any-asked g is)
+
+pub whole-by : (q : Asking) (r : Bool) → q.consistent ≡ true → is_some q.head.txn ≡ false → r ≡ list_any (λ (i : Item). (flags_at i.request).txn) q.items → r ≡ must_be_whole q
+whole-by q r consistent alone is =
+    is ∙ sym (any-asked (λ r. (flags_at r).txn) q.items)
+    ∙ ap (λ t. t && any_transactional (requests_of q.items)) (sym (and_both q.consistent (is_none q.head.txn) consistent (none-there q.head.txn alone)))
+  where
+    none-there : (o : Option TxnNo) → is_some o ≡ false → is_none o ≡ true
+    none-there None h = refl
+    none-there (Some n) h = cc
 
 pub begins-on : (budget : ℕ) (c : Counts) → c ≡ first_counts budget → 0 < budget → GoesOn c
 begins-on budget c is some = subst GoesOn (sym is) (omega (arith, some))

@@ -1,5 +1,6 @@
 -- Why a batch was answered so over ranges that may move: what its steps show.
 use Rattle.std.specs.Prelude.{◌≡◌, ℕ, ◌+◌, ◌<◌, ◌≤◌, ◌⊎◌, List, [], ◌∷◌, None, pos, refl, if◌then◌else◌}
+use Rattle.std.proofs.Common.{arith}
 use Rattle.ds_base.specs.declared.value.Dir.TheVariants.{Forward}
 use Rattle.ds_base.specs.declared.value.Value.TheVariants.{Int}
 use Rattle.ds_desc.specs.declared.desc.RangeDesc.{RangeDesc}
@@ -125,7 +126,7 @@ a_lost_put_is : risked_in (Did (Send 1 a_put Lost) ∷ []) ≡ 1
 a_lost_put_is = refl
 
 tries_are_left_of_four : WasWell 4 three_missed
-tries_are_left_of_four = record { none_failed = refl; within = refl }
+tries_are_left_of_four = record { none_failed = refl; within = omega (arith, three_are_missed) }
 
 not_of_three : WasWell 3 three_missed → ⊥
-not_of_three h = omega h.within
+not_of_three h = let low = h.within in omega (arith, three_are_missed, low)

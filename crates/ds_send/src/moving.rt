@@ -70,7 +70,13 @@ fn any_transactional(items: &Items) -> bool
 fn must_be_whole(asked: &Asked) -> bool
     ensures { result ≡ must_be_whole asked.now }
 {
-    asked.consistent && asked.head.txn.is_none() && any_transactional(&asked.items)
+    if !asked.consistent {
+        return false;
+    }
+    if asked.head.txn.is_some() {
+        return false;
+    }
+    any_transactional(&asked.items)
 }
 
 /// What must lie in one range, if anything: the least span over all requests.
