@@ -1,5 +1,5 @@
 -- A legal batch that can be sent is one that is sent over moving ranges: what its parts are like.
-use Rattle.std.proofs.Common.{◌≡◌, ℕ, ◌+◌, ◌<◌, Bool, true, false, ◌&&◌, ◌||◌, List, [], ◌∷◌, length, Option, Some, None, is_some, is_none, refl, sym, ap, ◌∙◌, subst, arith}
+use Rattle.std.proofs.Common.{◌≡◌, ℕ, ◌+◌, ◌<◌, Bool, true, false, not, ◌&&◌, ◌||◌, List, [], ◌∷◌, length, Option, Some, None, is_some, is_none, refl, sym, ap, ◌∙◌, subst, arith}
 use Rattle.std.specs.List.{list_all, list_any, All}
 use Rattle.std.proofs.lemmas.List.{length-map}
 use Rattle.std.proofs.lemmas.List.Elements.{All-head, All-tail}
@@ -38,7 +38,7 @@ use Rattle.ds_send.proofs.Readings.{none-limit}
 -- ---- the requests
 
 ask-alone : (at : Option Stamp) (r : Request) → can_ask at r ≡ true → can_ask_alone r ≡ true
-ask-alone None r h = ap (λ t. t || (is_value_write r || is_admin r)) h
+ask-alone None r h = ap (λ t. t || is_value_write r || is_admin r) h
 ask-alone (Some s) r h = h
 
 alone-endless : (r : Request) → can_ask_alone r ≡ true → is_end r ≡ false
@@ -53,10 +53,10 @@ none-ends at (r ∷ rs) h =
 -- what takes a number writes, and sees or makes a state
 
 number-acts : (r : Request) → takes_number r ≡ true → acts r ≡ true
-number-acts r h = ap (λ t. t || (flags_at r).alone) (and_first (flags_at r).write _ h)
+number-acts r h = ap (λ t. t || (flags_at r).alone) (and_first (flags_at r).write (flags_at r).txn (and_first ((flags_at r).write && (flags_at r).txn) (not (flags_at r).alone) h))
 
 number-state : (r : Request) → takes_number r ≡ true → (flags_at r).txn ≡ true
-number-state r h = and_first (flags_at r).txn _ (and_second (flags_at r).write _ h)
+number-state r h = and_second (flags_at r).write (flags_at r).txn (and_first ((flags_at r).write && (flags_at r).txn) (not (flags_at r).alone) h)
 
 any-more : (p g : Request → Bool) (rs : List Request) → ((r : Request) → p r ≡ true → g r ≡ true) → list_any p rs ≡ true → list_any g rs ≡ true
 any-more p g [] more h = h

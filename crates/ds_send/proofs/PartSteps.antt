@@ -165,7 +165,7 @@ is-one i [] h = h
 is-one i (x ∷ xs) (inl e) = inl e
 is-one i (x ∷ xs) (inr h) = inr (is-one i xs h)
 
-rises-right : (xs ys : List Item) → PositionsRise (xs ++ ys) → PositionsRise ys
+pub rises-right : (xs ys : List Item) → PositionsRise (xs ++ ys) → PositionsRise ys
 rises-right [] ys h = h
 rises-right (x ∷ xs) ys h = rises-right xs ys h.1
 
