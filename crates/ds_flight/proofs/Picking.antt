@@ -146,6 +146,7 @@ picked-ran f known left a m b es c picks hs same ran =
       of = r.of;
       goes = r.goes;
       counts = r.counts;
+      went_on = r.went_on;
       refused = r.refused;
       lost = r.lost;
       refuses = r.refuses;
@@ -195,7 +196,7 @@ next-ran :
     → PieceRan head (course m es c) b left (Routed r ∷ mid) → PieceRan head (course a es c) b left old
 next-ran head a m b es c old mid left at r picked t ran = λ f known done same all u.
     let went = ran f known done same all (underway-permuted f known done old (Routed r ∷ mid) (taken-out a.ahead old mid at r t) u) in
-    (went.0, record { ran = picked-ran f known left a m b es c (later_picks a.ahead) went.0 picked went.1.ran; covers = went.1.covers })
+    (went.0, record { ran = picked-ran f known left a m b es c (later_picks a.ahead) went.0 picked went.1.ran; covers = went.1.covers; sent = went.1.sent; unended = went.1.unended })
 
 pub next-errs :
     (head : Head) (a m : Stands) (b : Course) (es : List Entry) (c : Counts) (old mid : List Task) (left : Option ℕ) (at : ℕ) (r : Flying) (res : Result Sent AllocError)
