@@ -1,17 +1,14 @@
 -- Where a flight stands between its sends, and how it ends.
-use Rattle.std.proofs.Common.{◌≡◌, ◌⊎◌, ℕ, ◌+◌, ◌<◌, ◌≤◌, nat_lt, cond, false, true, List, [], ◌∷◌, ◌++◌, map, length, get_or, Option, Some, None, Result, Ok, Err, IfOk, inl, inr, refl, sym, ap, ◌∙◌, subst, append_assoc, arith}
-use Rattle.std.proofs.lemmas.Bool.Decides.{nat_tests}
+use Rattle.std.proofs.Common.{◌≡◌, ◌⊎◌, ℕ, ◌+◌, ◌<◌, ◌≤◌, false, true, List, [], ◌∷◌, ◌++◌, map, length, get_or, Option, Some, None, Result, Ok, Err, IfOk, inl, inr, refl, sym, ap, ◌∙◌, subst, arith}
 use Rattle.std.proofs.lemmas.List.Sums.{sum_by-cons}
 use Rattle.std.proofs.lemmas.List.Sorted.{IsPermutation-remove}
 use Rattle.std.proofs.lemmas.Option.{slice_get-get_or, slice_get_within}
-use Rattle.std.specs.List.{position, position_or_len, remove}
+use Rattle.std.specs.List.{position, remove}
 use Rattle.std.specs.declared.alloc.AllocError.{AllocError}
-use Rattle.ds_base.specs.Order.{Extent}
-use Rattle.ds_base.proofs.SmallFacts.{append_nil, some_none, some_same}
+use Rattle.ds_base.proofs.SmallFacts.{append_nil, some_same}
 use Rattle.ds_desc.specs.declared.desc.RangeDesc.{RangeDesc}
 use Rattle.ds_kind.specs.Filled.{filled}
 use Rattle.ds_kind.specs.Left.{is_used_up}
-use Rattle.ds_kind.specs.declared.batch.Head.{Head}
 use Rattle.ds_kind.specs.declared.batch.Item.{Item}
 use Rattle.ds_kind.specs.declared.batch.Part.{Part}
 use Rattle.ds_kind.specs.declared.reply.Reply.{Reply}
@@ -32,12 +29,12 @@ use Rattle.ds_rule.specs.declared.journal.JournalStep.TheVariants.{Look, Send}
 use Rattle.ds_rule.specs.Clauses.{later_picks}
 use Rattle.ds_rule.specs.Journal.{Happening, Moved, Did}
 use Rattle.ds_rule.specs.Pieces.{Each, IsOneOf}
-use Rattle.ds_flight.specs.Causes.{DoneWith, GoesOn, IsAmbiguous, IsExhausted, IsFailed, PartCause, failed_sum}
+use Rattle.ds_flight.specs.Causes.{DoneWith, GoesOn, failed_sum}
 use Rattle.ds_flight.specs.Covers.{AllCover, StepCovers}
 use Rattle.ds_flight.specs.Ends.{NoneEnds}
-use Rattle.ds_flight.specs.Fills.{Fills, FilledTo, FillingCounts, FliesSo, IsFilled, IsReady, LeavesRest, RestsRouted, RestsSought, tries_left}
+use Rattle.ds_flight.specs.Fills.{Fills, FilledTo, FillingCounts, FliesSo, IsFilled, IsReady, LeavesRest, RestsRouted, RestsSought}
 use Rattle.ds_flight.specs.Flights.{Flight}
-use Rattle.ds_flight.specs.Flown.{Began, Ended, Flown, IsUnfinished, SomeLeft, flight}
+use Rattle.ds_flight.specs.Flown.{Began, Flown, IsUnfinished, SomeLeft}
 use Rattle.ds_flight.specs.Goes.{WholeHolds, known_after}
 use Rattle.ds_flight.specs.Left.{arrived, blocks_of, failures, left_over}
 use Rattle.ds_flight.specs.Picked.{most_of, AllDone, Picked, PickedIfDone}
@@ -45,9 +42,9 @@ use Rattle.ds_flight.specs.Picks.{picks_after, sends_of, IsOneAtMost, TookOneMor
 use Rattle.ds_flight.specs.Places.{is_rest, one_if_routed, waiting}
 use Rattle.ds_flight.specs.Queues.{KeepsQueue}
 use Rattle.ds_flight.specs.Ran.{AreKnown, Course, Ran}
-use Rattle.ds_flight.specs.Searches.{Quiet, Searched}
+use Rattle.ds_flight.specs.Searches.{Searched}
 use Rattle.ds_flight.specs.Sends.{load, EndCause, IsProperTask, IsSendable, PieceRan, PieceSent, SentNext}
-use Rattle.ds_flight.specs.Works.{items_of, work_left, IsTask, Underway}
+use Rattle.ds_flight.specs.Works.{items_of, IsTask, Underway}
 use Rattle.ds_flight.specs.declared.fill.Filling.{Filling}
 use Rattle.ds_flight.specs.declared.fill.Filling.TheVariants.{On, NotWhole, Spent}
 use Rattle.ds_flight.specs.declared.sent.Sent.{Sent}
@@ -58,7 +55,7 @@ use Rattle.ds_flight.proofs.Caching.{entries-first}
 use Rattle.ds_flight.proofs.Ending.{arrived-inside, end-append, short-cause, underway-proper}
 use Rattle.ds_flight.proofs.Covers.{cover-append, cover-none, cover-one, routed-covers}
 use Rattle.ds_flight.proofs.Idle.{idle}
-use Rattle.ds_flight.proofs.Joins.{arrived-append, blocks-append, failures-append, known-append, last-append, over-append, ran-append, ran-none, took-or-more, took-then, unended-append}
+use Rattle.ds_flight.proofs.Joins.{arrived-append, blocks-append, failures-append, known-append, over-append, ran-append, ran-none, took-or-more, took-then, unended-append}
 use Rattle.ds_flight.proofs.Taking.{done-first, done-later, queue-begins, queue-ends, queue-filled, queue-sent, rest-first, Queue}
 use Rattle.ds_flight.proofs.Tries.{fits-after, spent-missed}
 use Rattle.ds_flight.proofs.Working.{each-more, underway-first}
@@ -349,12 +346,6 @@ sent-ended f left n a b c work new got more rest less s o aloft is by =
     )
 
 -- ---- memory was wanting
-
--- nothing was done yet
-pub began-first : (f : Flight) (left : Option ℕ) (a : Course) → GoesOn a.counts → Began f left a a
-began-first f left a tries = λ known all.
-    let ran = ran-none f known left a in
-    ([], record { ran = ran; covers = tt; picks = inl refl; unended = tt; fits = fits-after a.counts a.counts [] tries refl tt })
 
 pub aloft-began :
     (f : Flight) (left : Option ℕ) (n : ℕ) (a b : Course) (work : List Task) (got : Gathering) (rest : Option ℕ) → GoesOn a.counts → IsAloft f left n a b work got rest → Began f left a b

@@ -241,9 +241,9 @@ refused-to f known done d hs r o at old new s (SameRoute n) same is spent sent w
     subst (SentTo f known done d hs new) (sym sent)
     (none, subst (GoesOnIfOn d) sent on, underway-again f known done r next at old new work refl (flying-turned f known r next refl same is u.each.0) u, unended)
 refused-to f known done d hs r o at old new s Relook same is spent sent work on none empty unended missed u =
-    subst (SentTo f known done d hs new) (sym sent) (none, subst (GoesOnIfOn d) sent on, underway-given-back f known done r at old new work u)
+    subst (SentTo f known done d hs new) (sym sent) (none, subst (GoesOnIfOn d) sent on, underway-given-back f known done r at old new work u, unended)
 refused-to f known done d hs r o at old new s Recut same is spent sent work on none empty unended missed u =
-    subst (SentTo f known done d hs new) (sym sent) (none, subst (GoesOnIfOn d) sent on, underway-given-back f known done r at old new work u)
+    subst (SentTo f known done d hs new) (sym sent) (none, subst (GoesOnIfOn d) sent on, underway-given-back f known done r at old new work u, unended)
 refused-to f known done d hs r o at old new s (Exhausted refused lost) same is spent sent work on none empty unended missed u =
     subst (SentTo f known done d hs new) (sym sent) (record { none_failed = none; unended = unended; spent = spent.0; last = missed; refused_is = spent.1; lost_is = spent.2 }, empty)
 

@@ -2,7 +2,6 @@
 use Rattle.std.specs.Prelude.{◌≡◌, ℕ, List, [], ◌∷◌, ◌++◌, None, refl}
 use Rattle.ds_base.specs.declared.value.Dir.TheVariants.{Forward}
 use Rattle.ds_desc.specs.declared.meta.Looked.TheVariants as Looked
-use Rattle.ds_kind.specs.declared.batch.Piece.{Piece}
 use Rattle.ds_rule.specs.declared.answer.Answer.{Answer}
 use Rattle.ds_rule.specs.declared.answer.Answer.TheVariants.{Done, Failed, Refused, Lost}
 use Rattle.ds_rule.specs.declared.journal.JournalStep.{JournalStep}
@@ -58,7 +57,7 @@ the_next_send_never_came : TookOneMore (4 ∷ 3 ∷ 2 ∷ []) (2 ∷ []) (sent L
 the_next_send_never_came = refl
 
 not_two_sends : TookOneMore (4 ∷ 3 ∷ 2 ∷ []) (2 ∷ []) [] → ⊥
-not_two_sends h = let bad : 2 ∷ [] ≡ 3 ∷ 2 ∷ [] = h in cc
+not_two_sends h = cc
 
 one_at_most : IsOneAtMost (sends_of (Did (Look [] Forward Looked.Lost) ∷ sent Lost ∷ []))
 one_at_most = refl

@@ -1,4 +1,4 @@
-use Rattle.std.proofs.Common.{◌≡◌, ◌<◌, ◌≤◌, ◌^◌, ap, arith, ◌∙◌, subst, sym}
+use Rattle.std.proofs.Common.{◌≤◌, ap, arith, ◌∙◌, subst, sym}
 use Rattle.ds_iter.proofs.RowSteps.{on_err}
 use Rattle.ds_flight.specs.Fills.{FilledTo}
 use Rattle.ds_flight.specs.Flown.{flight}
