@@ -272,13 +272,13 @@ next-covers f known done p q work new hs u next =
 
 pub aloft-sent :
     (f : Flight) (left : Option ℕ) (n : ℕ) (a b c : Course) (work new : List Task) (got more : Gathering) (rest less : Option ℕ) (s : Sent)
-    → IsAloft f left n a b work got rest → s ≡ Sending.On → PieceSent f.head b c (load work got rest) (load new more less) s → IsFilled (most_of left) work → waiting work ≤ most_of left
+    → IsAloft f left n a b work got rest → is_used_up rest ≡ false → s ≡ Sending.On → PieceSent f.head b c (load work got rest) (load new more less) s → IsFilled (most_of left) work → waiting work ≤ most_of left
     → IsAloft f left (most_of left) a c new more less
-aloft-sent f left n a b c work new got more rest less s aloft is by filled few =
+aloft-sent f left n a b c work new got more rest less s aloft room is by filled few =
     let sent : PieceSent f.head b c (load work got rest) (load new more less) Sending.On = subst (PieceSent f.head b c (load work got rest) (load new more less)) is by in
     λ known all.
     let x = aloft known all in
-    let y = sent f (known_after known x.0) (blocks_of x.0) refl (x.1.ran.entries all) x.1.underway in
+    let y = sent f (known_after known x.0) (blocks_of x.0) refl (x.1.ran.entries all) room x.1.underway in
     let to = y.1.to in (
       x.0 ++ y.0,
       record {
@@ -328,12 +328,12 @@ ended-picked f left picks hs ys c (Outcome.Exhausted refused lost) cause = tt
 
 pub sent-ended :
     (f : Flight) (left : Option ℕ) (n : ℕ) (a b c : Course) (work new : List Task) (got more : Gathering) (rest less : Option ℕ) (s : Sent) (o : PartOutcome)
-    → IsAloft f left n a b work got rest → s ≡ Sending.Ended o → PieceSent f.head b c (load work got rest) (load new more less) s → Flown f left a c o
-sent-ended f left n a b c work new got more rest less s o aloft is by =
+    → IsAloft f left n a b work got rest → is_used_up rest ≡ false → s ≡ Sending.Ended o → PieceSent f.head b c (load work got rest) (load new more less) s → Flown f left a c o
+sent-ended f left n a b c work new got more rest less s o aloft room is by =
     let sent : PieceSent f.head b c (load work got rest) (load new more less) (Sending.Ended o) = subst (PieceSent f.head b c (load work got rest) (load new more less)) is by in
     λ known all.
     let x = aloft known all in
-    let y = sent f (known_after known x.0) (blocks_of x.0) refl (x.1.ran.entries all) x.1.underway in (
+    let y = sent f (known_after known x.0) (blocks_of x.0) refl (x.1.ran.entries all) room x.1.underway in (
       x.0 ++ y.0,
       record {
         ran = ran-append f known left a b c x.0 y.0 x.1.ran (subst (λ l. Ran f (known_after known x.0) l b c y.0) x.1.rest_is y.1.ran);
@@ -389,11 +389,11 @@ one-picked a b hs one is = by (sends_of hs) one
 
 pub began-sent :
     (f : Flight) (left : Option ℕ) (n : ℕ) (a b c : Course) (work : List Task) (got : Gathering) (rest : Option ℕ)
-    → GoesOn a.counts → IsAloft f left n a b work got rest → PieceRan f.head b c rest work → c.wire.ahead ≡ later_picks b.wire.ahead → Began f left a c
-began-sent f left n a b c work got rest tries aloft ran ahead =
+    → GoesOn a.counts → IsAloft f left n a b work got rest → is_used_up rest ≡ false → PieceRan f.head b c rest work → c.wire.ahead ≡ later_picks b.wire.ahead → Began f left a c
+began-sent f left n a b c work got rest tries aloft room ran ahead =
     λ known all.
     let x = aloft known all in
-    let y = ran f (known_after known x.0) (blocks_of x.0) refl (x.1.ran.entries all) x.1.underway in
+    let y = ran f (known_after known x.0) (blocks_of x.0) refl (x.1.ran.entries all) room x.1.underway in
     let both = ran-append f known left a b c x.0 y.0 x.1.ran (subst (λ l. Ran f (known_after known x.0) l b c y.0) x.1.rest_is y.1.ran) in (
       x.0 ++ y.0,
       record {
@@ -544,11 +544,11 @@ short-if f left a b work got rest (Err e) aloft goes used is = tt
 
 pub sent-goes :
     (f : Flight) (left : Option ℕ) (n : ℕ) (a b c : Course) (work new : List Task) (got more : Gathering) (rest less : Option ℕ) (s : Sent)
-    → IsAloft f left n a b work got rest → s ≡ Sending.On → PieceSent f.head b c (load work got rest) (load new more less) s → GoesOn c.counts
-sent-goes f left n a b c work new got more rest less s aloft is by =
+    → IsAloft f left n a b work got rest → is_used_up rest ≡ false → s ≡ Sending.On → PieceSent f.head b c (load work got rest) (load new more less) s → GoesOn c.counts
+sent-goes f left n a b c work new got more rest less s aloft room is by =
     let sent : PieceSent f.head b c (load work got rest) (load new more less) Sending.On = subst (PieceSent f.head b c (load work got rest) (load new more less)) is by in
     let x = aloft (map (λ e. e.1.desc) a.entries) (entries-first a.entries) in
-    let y = sent f (known_after (map (λ e. e.1.desc) a.entries) x.0) (blocks_of x.0) refl (x.1.ran.entries (entries-first a.entries)) x.1.underway in
+    let y = sent f (known_after (map (λ e. e.1.desc) a.entries) x.0) (blocks_of x.0) refl (x.1.ran.entries (entries-first a.entries)) room x.1.underway in
     y.1.to.1
 
 pub filled-few : (most : ℕ) (c d : Counts) (work new : List Task) (r : Filling) → r ≡ On → FilledTo most c d work new r → waiting work ≤ most → waiting new ≤ most

@@ -9,7 +9,7 @@ use Rattle.ds_cache.specs.Entries.{Cache, Entry}
 use Rattle.ds_desc.specs.declared.desc.RangeDesc.{RangeDesc}
 use Rattle.ds_desc.specs.declared.refusal.Refusal.{Refusal}
 use Rattle.ds_desc.specs.declared.refusal.Refusal.TheVariants.{NotFound, NotLease, Mismatch}
-use Rattle.ds_kind.specs.Left.{left_after}
+use Rattle.ds_kind.specs.Left.{is_used_up, left_after}
 use Rattle.ds_kind.specs.declared.batch.Head.{Head}
 use Rattle.ds_kind.specs.declared.batch.Item.{Item}
 use Rattle.ds_kind.specs.declared.batch.Piece.{Piece}
@@ -100,12 +100,12 @@ sent-as head l left a b r x y limit answer steps =
 
 answer-ran :
     (f : Flight) (known : List RangeDesc) (head : Head) (left : Option ℕ) (a b : Stands) (es fs : List Entry) (c d : Counts) (r : Flying) (x : Answer)
-    → GoesOn c → f.head ≡ head → IsFlying f known r → d ≡ counted_step c (Send r.node (asked_by head left r.piece) x)
+    → GoesOn c → is_used_up left ≡ false → f.head ≡ head → IsFlying f known r → d ≡ counted_step c (Send r.node (asked_by head left r.piece) x)
     → (AreKnown known es → AreKnown (known ++ descs_of (told_by (Send r.node (asked_by head left r.piece) x))) fs)
     → (steps : Steps a b (Send r.node (asked_by head left r.piece) x))
     → Ran f known left (course a es c) (course b fs d) (and_step steps.moves (Send r.node (asked_by head left r.piece) x))
-answer-ran f known head left a b es fs c d r x on same flies counts entries steps =
-    sent-ran f known left a b es fs c d (asking_with head left r) (asked_by head left r.piece) x on (ap (λ h. asked_by h left r.piece) (sym same)) (asked-flies f known head left r flies) counts entries steps
+answer-ran f known head left a b es fs c d r x on room same flies counts entries steps =
+    sent-ran f known left a b es fs c d (asking_with head left r) (asked_by head left r.piece) x on room (ap (λ h. asked_by h left r.piece) (sym same)) (asked-flies f known head left r flies) counts entries steps
 
 answer-fits :
     (f : Flight) (known : List RangeDesc) (done : List (List Item)) (head : Head) (left rest : Option ℕ) (a b : Stands) (es fs : List Entry) (c d : Counts) (r : Flying) (x : Answer)
@@ -147,12 +147,12 @@ pub any-ran :
     → ((known : List RangeDesc) → AreKnown known es → AreKnown (known ++ descs_of (told_by (Send r.node (asked_by head left r.piece) x))) fs)
     → Steps a b (Send r.node (asked_by head left r.piece) x)
     → PieceRan head (course a es c) (course b fs d) left (Routed r ∷ old)
-any-ran head left a b es fs c d r x old on ends counts entries steps = λ f known done same all u.
+any-ran head left a b es fs c d r x old on ends counts entries steps = λ f known done same all room u.
     let p = asked_by head left r.piece in
     let hs = and_step steps.moves (Send r.node p x) in (
       hs,
       record {
-        ran = answer-ran f known head left a b es fs c d r x on same u.each.0 counts (entries known) steps;
+        ran = answer-ran f known head left a b es fs c d r x on room same u.each.0 counts (entries known) steps;
         covers = cover-one f.part.items done hs r.node p x (step-sends steps.moves (Send r.node p x)) (map items_of old, u.covered);
         sent = subst IsOneAtMost (sym (step-sends steps.moves (Send r.node p x))) refl;
         unended = step-unended steps.moves (Send r.node p x) ends;
@@ -170,7 +170,7 @@ moves-send (m ∷ ms) = moves-send ms
 pub none-ran :
     (head : Head) (left : Option ℕ) (a b : Stands) (es : List Entry) (c : Counts) (work : List Task)
     → Stays a b → PieceRan head (course a es c) (course b es c) left work
-none-ran head left a b es c work stays = λ f known done same all u. (
+none-ran head left a b es c work stays = λ f known done same all room u. (
   map Moved stays.moves,
   record {
     ran = ran-stays f known left (course a es c) (course b es c) refl (λ h. h) stays;
@@ -187,12 +187,12 @@ pub done-sent :
     → GoesOn c → rest ≡ left_after left rs → more ≡ record { wanted = got.wanted; got = got.got ++ arrivals r.piece.items rs }
     → Steps a b (Send r.node (asked_by head left r.piece) (Done rs))
     → RoutedSent head (course a es c) (course b es c) (load old got left) (load old more rest) r On
-done-sent head left rest a b es c r old got more rs on leaves gathers steps = λ f known done same all u.
+done-sent head left rest a b es c r old got more rs on leaves gathers steps = λ f known done same all room u.
     let p = asked_by head left r.piece in
     let all_of = all_replies p.head p.items rs (step_in a b r.node p rs steps) in (
       and_step steps.moves (Send r.node p (Done rs)),
       answer-fits f known done head left rest a b es es c c r (Done rs) old old got more On gathers (leaves ∙ ap (left_after left) (sym all_of)) steps
-          (answer-ran f known head left a b es es c c r (Done rs) on same u.each.0 refl (none-told known es es (λ h. h)) steps)
+          (answer-ran f known head left a b es es c c r (Done rs) on room same u.each.0 refl (none-told known es es (λ h. h)) steps)
           (step-failures steps.moves (Send r.node p (Done rs)), on, later f known (done ++ r.piece.items ∷ []) old r.node p (Done rs) (underway-done f known done r old u), step-unended steps.moves (Send r.node p (Done rs)) refl) same (λ is. refl),
     )
 
@@ -207,7 +207,7 @@ pub failed-sent :
     (head : Head) (left : Option ℕ) (a b : Stands) (es : List Entry) (c : Counts) (r : Flying) (old new : List Task) (got : Gathering) (e : Failure)
     → GoesOn c → Steps a b (Send r.node (asked_by head left r.piece) (Failed e))
     → RoutedSent head (course a es c) (course b es c) (load old got left) (load new got left) r (Ended (Outcome.Failed e))
-failed-sent head left a b es c r old new got e on steps = λ f known done same all u.
+failed-sent head left a b es c r old new got e on steps = λ f known done same all room u.
     let p = asked_by head left r.piece in
     let hs = and_step steps.moves (Send r.node p (Failed e)) in
     let cause : IsFailed c hs e = record {
@@ -218,7 +218,7 @@ failed-sent head left a b es c r old new got e on steps = λ f known done same a
     } in (
       hs,
       answer-fits f known done head left left a b es es c c r (Failed e) old new got got (Ended (Outcome.Failed e)) (none-gathered got) (sym (left-none left)) steps
-          (answer-ran f known head left a b es es c c r (Failed e) on same u.each.0 refl (none-told known es es (λ h. h)) steps)
+          (answer-ran f known head left a b es es c c r (Failed e) on room same u.each.0 refl (none-told known es es (λ h. h)) steps)
           (cause, step-blocks steps.moves (Send r.node p (Failed e))) same (λ is. absurd is),
     )
 
@@ -252,7 +252,7 @@ refused-sent :
     → GoesOn c → d ≡ one_refused c → LearnsFrom x before after → Steps a b (Send r.node (asked_by head left r.piece) (Refused x))
     → TurnedAway x (asking_with head left r) d at before after old new s → GoesOnIfOn d s
     → RoutedSent head (course a before.entries c) (course b after.entries d) (load old got left) (load new got left) r s
-refused-sent head left a b before after c d r at old new got x s low counts learns steps turned on = λ f known done same all u.
+refused-sent head left a b before after c d r at old new got x s low counts learns steps turned on = λ f known done same all room u.
     let p = asked_by head left r.piece in
     let st = Send r.node p (Refused x) in
     let hs = and_step steps.moves st in
@@ -262,7 +262,7 @@ refused-sent head left a b before after c d r at old new got x s low counts lear
     (later f known done (Routed (asking_with head left r) ∷ old) r.node p (Refused x) (asked-underway f known done head left r old u)) in (
       hs,
       answer-fits f known done head left left a b before.entries after.entries c d r (Refused x) old new got got s (none-gathered got) (sym (left-none left)) steps
-          (answer-ran f known head left a b before.entries after.entries c d r (Refused x) low same u.each.0 counts (refused-entries r.node p x before after learns known) steps)
+          (answer-ran f known head left a b before.entries after.entries c d r (Refused x) low room same u.each.0 counts (refused-entries r.node p x before after learns known) steps)
           (subst (λ ds. SentTo f ks ds d hs new s) (sym (append_nil done)) to) same (λ is. absurd is),
     )
 
@@ -335,7 +335,7 @@ lost-sends :
     → GoesOn c → risky ≡ is_risky (asked_by head left r.piece) → d ≡ one_lost risky c → Steps a b (Send r.node (asked_by head left r.piece) Lost)
     → s ≡ lost_sent (ends_at_once risky head.txn) d → new ≡ lost_work (asking_with head left r) at old s → GoesOnIfOn d s
     → RoutedSent head (course a es c) (course b es d) (load old got left) (load new got left) r s
-lost-sends head left a b es c d r at old new got risky s low is counts steps sent work on = λ f known done same all u.
+lost-sends head left a b es c d r at old new got risky s low is counts steps sent work on = λ f known done same all room u.
     let p = asked_by head left r.piece in
     let st = Send r.node p Lost in
     let hs = and_step steps.moves st in
@@ -344,7 +344,7 @@ lost-sends head left a b es c d r at old new got risky s low is counts steps sen
     (later f known done (Routed (asking_with head left r) ∷ old) r.node p Lost (asked-underway f known done head left r old u)) in (
       hs,
       answer-fits f known done head left left a b es es c d r Lost old new got got s (none-gathered got) (sym (left-none left)) steps
-          (answer-ran f known head left a b es es c d r Lost low same u.each.0 (counts ∙ ap (λ t. one_lost t c) is) (none-told known es es (λ h. h)) steps)
+          (answer-ran f known head left a b es es c d r Lost low room same u.each.0 (counts ∙ ap (λ t. one_lost t c) is) (none-told known es es (λ h. h)) steps)
           (subst (λ ds. SentTo f ks ds d hs new s) (sym (append_nil done)) to) same (λ is. absurd is),
     )
 

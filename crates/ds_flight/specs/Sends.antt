@@ -8,6 +8,7 @@ use Rattle.ds_desc.specs.declared.desc.Info.{Info}
 use Rattle.ds_desc.specs.declared.desc.RangeDesc.{RangeDesc}
 use Rattle.ds_desc.specs.declared.refusal.Refusal.{Refusal}
 use Rattle.ds_desc.specs.declared.refusal.Refusal.TheVariants.{NotFound, NotLease, Mismatch}
+use Rattle.ds_kind.specs.Left.{is_used_up}
 use Rattle.ds_kind.specs.declared.batch.Head.{Head}
 use Rattle.ds_kind.specs.declared.batch.Item.{Item}
 use Rattle.ds_kind.specs.declared.batch.Piece.{Piece}
@@ -164,10 +165,10 @@ pub record SendFits (f : Flight) (known : List RangeDesc) (done : List (List Ite
   pub to : SentTo f (known_after known hs) (done ++ blocks_of hs) b.counts hs y.work s
   pub was : WasSent f.head x y r hs
 
--- a piece was sent, for any part of this head, whatever is known and done of it
+-- a piece was sent, for any part of this head, whatever is known and done of it, while something of the limit was left
 abbrev pub RoutedSent : Head → Course → Course → Load → Load → Flying → Sent → Type 0
 RoutedSent head a b x y r s =
-    (f : Flight) (known : List RangeDesc) (done : List (List Item)) → f.head ≡ head → AreKnown known a.entries → Underway f known done (Routed r ∷ x.work)
+    (f : Flight) (known : List RangeDesc) (done : List (List Item)) → f.head ≡ head → AreKnown known a.entries → is_used_up x.left ≡ false → Underway f known done (Routed r ∷ x.work)
     → (hs : List Happening) × SendFits f known done a b x y r s hs
 
 -- what happened where memory was wanted: one piece was sent, or none, and it ended nothing
@@ -179,7 +180,7 @@ pub record PieceBegan (f : Flight) (known : List RangeDesc) (done : List (List I
 
 abbrev pub PieceRan : Head → Course → Course → Option ℕ → List Task → Type 0
 PieceRan head a b left work =
-    (f : Flight) (known : List RangeDesc) (done : List (List Item)) → f.head ≡ head → AreKnown known a.entries → Underway f known done work
+    (f : Flight) (known : List RangeDesc) (done : List (List Item)) → f.head ≡ head → AreKnown known a.entries → is_used_up left ≡ false → Underway f known done work
     → (hs : List Happening) × PieceBegan f known done left a b hs
 
 -- there are fewer tries, or there is less work
@@ -216,10 +217,10 @@ pub record SentFits (f : Flight) (known : List RangeDesc) (done : List (List Ite
   pub to : SentTo f (known_after known hs) (done ++ blocks_of hs) b.counts hs y.work s
   pub next : SentNext a.wire.ahead b.wire.ahead x.work y.work hs
 
--- a piece was picked and sent, for any part of this head, whatever is known and done of it
+-- a piece was picked and sent, for any part of this head, whatever is known and done of it, while something of the limit was left
 abbrev pub PieceSent : Head → Course → Course → Load → Load → Sent → Type 0
 PieceSent head a b x y s =
-    (f : Flight) (known : List RangeDesc) (done : List (List Item)) → f.head ≡ head → AreKnown known a.entries → Underway f known done x.work
+    (f : Flight) (known : List RangeDesc) (done : List (List Item)) → f.head ≡ head → AreKnown known a.entries → is_used_up x.left ≡ false → Underway f known done x.work
     → (hs : List Happening) × SentFits f known done a b x y s hs
 
 -- ---- the end where the limit is used up

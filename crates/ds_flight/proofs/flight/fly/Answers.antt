@@ -67,7 +67,7 @@ returns-in_err-send_one-clause-began g c =
     let filled = subst (λ m. FilledTo m c.flight.attempts c.fill.new.attempts c.flight.work.items c.fill.new.work.items c.in_ok-fill.field-0) c.most_waiting-most.ensures.most c.in_ok-fill.ensures.filled in
     let few = filled-few (most_of c.args.left) c.flight.attempts c.fill.new.attempts c.flight.work.items c.fill.new.work.items c.in_ok-fill.field-0 c.in-On.is filled c.flight.invariant.few in
     let aloft = aloft-filled f c.args.left _ _ _ _ _ _ _ c.in_ok-fill.field-0 c.requires.whole c.flight.invariant.aloft c.in-On.is c.in_ok-fill.ensures.routed c.in_ok-fill.ensures.queue few in
-    on_err _ _ (began-sent f c.args.left _ _ _ _ _ _ _ c.requires.goes_on aloft c.in_err-send_one.ensures.ran c.send_one.ensures.picked)
+    on_err _ _ (began-sent f c.args.left _ _ _ _ _ _ _ c.requires.goes_on aloft (sym c.is_used_up.ensures ∙ c.flight-test.true) c.in_err-send_one.ensures.ran c.send_one.ensures.picked)
 
 pub flight-preserved : goal.flight-preserved
 flight-preserved g c =
@@ -76,10 +76,11 @@ flight-preserved g c =
     let few : waiting c.fill.new.work.items ≤ most_of c.args.left = filled-few (most_of c.args.left) c.flight.attempts c.fill.new.attempts c.flight.work.items c.fill.new.work.items c.in_ok-fill.field-0 c.in-On.is filled c.flight.invariant.few in
     let full = filled-full (most_of c.args.left) c.flight.attempts c.fill.new.attempts c.flight.work.items c.fill.new.work.items c.in_ok-fill.field-0 c.in-On.is filled in
     let aloft = aloft-filled f c.args.left _ _ _ _ _ _ _ c.in_ok-fill.field-0 c.requires.whole c.flight.invariant.aloft c.in-On.is c.in_ok-fill.ensures.routed c.in_ok-fill.ensures.queue few in
+    let room = sym c.is_used_up.ensures ∙ c.flight-test.true in
     let kept : waiting c.send_one.new.work.items ≤ waiting c.fill.new.work.items = c.in_ok-send_one.ensures.few in
     record {
-      aloft = aloft-sent f c.args.left _ _ _ _ _ _ _ _ _ _ c.in_ok-send_one.field-0 aloft c.in-On-2.is c.in_ok-send_one.ensures.sent full few;
-      goes = sent-goes f c.args.left _ _ _ _ _ _ _ _ _ _ c.in_ok-send_one.field-0 aloft c.in-On-2.is c.in_ok-send_one.ensures.sent;
+      aloft = aloft-sent f c.args.left _ _ _ _ _ _ _ _ _ _ c.in_ok-send_one.field-0 aloft room c.in-On-2.is c.in_ok-send_one.ensures.sent full few;
+      goes = sent-goes f c.args.left _ _ _ _ _ _ _ _ _ _ c.in_ok-send_one.field-0 aloft room c.in-On-2.is c.in_ok-send_one.ensures.sent;
       few = omega (arith, few, kept);
     }
 
@@ -89,4 +90,4 @@ returns-in-Ended-clause-flown g c =
     let filled = subst (λ m. FilledTo m c.flight.attempts c.fill.new.attempts c.flight.work.items c.fill.new.work.items c.in_ok-fill.field-0) c.most_waiting-most.ensures.most c.in_ok-fill.ensures.filled in
     let few = filled-few (most_of c.args.left) c.flight.attempts c.fill.new.attempts c.flight.work.items c.fill.new.work.items c.in_ok-fill.field-0 c.in-On.is filled c.flight.invariant.few in
     let aloft = aloft-filled f c.args.left _ _ _ _ _ _ _ c.in_ok-fill.field-0 c.requires.whole c.flight.invariant.aloft c.in-On.is c.in_ok-fill.ensures.routed c.in_ok-fill.ensures.queue few in
-    sent-ended f c.args.left _ _ _ _ _ _ _ _ _ _ c.in_ok-send_one.field-0 c.in-Ended.outcome aloft c.in-Ended.is c.in_ok-send_one.ensures.sent
+    sent-ended f c.args.left _ _ _ _ _ _ _ _ _ _ c.in_ok-send_one.field-0 c.in-Ended.outcome aloft (sym c.is_used_up.ensures ∙ c.flight-test.true) c.in-Ended.is c.in_ok-send_one.ensures.sent
