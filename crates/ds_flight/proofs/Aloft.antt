@@ -57,7 +57,7 @@ use Rattle.ds_flight.proofs.Covers.{cover-append, cover-none, cover-one, routed-
 use Rattle.ds_flight.proofs.Idle.{idle}
 use Rattle.ds_flight.proofs.Joins.{arrived-append, blocks-append, failures-append, known-append, over-append, ran-append, ran-none, took-or-more, took-then, unended-append}
 use Rattle.ds_flight.proofs.Taking.{done-first, done-later, queue-begins, queue-ends, queue-filled, queue-sent, rest-first, Queue}
-use Rattle.ds_flight.proofs.Tries.{fits-after, spent-missed}
+use Rattle.ds_flight.proofs.Tries.{spent-missed}
 use Rattle.ds_flight.proofs.Working.{each-more, underway-first}
 
 -- ---- where it stands
@@ -348,8 +348,8 @@ sent-ended f left n a b c work new got more rest less s o aloft room is by =
 -- ---- memory was wanting
 
 pub aloft-began :
-    (f : Flight) (left : Option ℕ) (n : ℕ) (a b : Course) (work : List Task) (got : Gathering) (rest : Option ℕ) → GoesOn a.counts → IsAloft f left n a b work got rest → Began f left a b
-aloft-began f left n a b work got rest tries aloft = λ known all.
+    (f : Flight) (left : Option ℕ) (n : ℕ) (a b : Course) (work : List Task) (got : Gathering) (rest : Option ℕ) → GoesOn b.counts → IsAloft f left n a b work got rest → Began f left a b
+aloft-began f left n a b work got rest goes aloft = λ known all.
     let x = aloft known all in (
       x.0,
       record {
@@ -357,14 +357,14 @@ aloft-began f left n a b work got rest tries aloft = λ known all.
         covers = x.1.covers;
         picks = inl x.1.picks;
         unended = x.1.unended;
-        fits = fits-after a.counts b.counts x.0 tries x.1.ran.counts x.1.ran.went_on;
+        goes_on = goes;
       },
     )
 
 pub began-filled :
-    (f : Flight) (left : Option ℕ) (n : ℕ) (a b c : Course) (work : List Task) (got : Gathering) (rest : Option ℕ) → GoesOn a.counts → WholeHolds f.whole f.part.items
+    (f : Flight) (left : Option ℕ) (n : ℕ) (a b c : Course) (work : List Task) (got : Gathering) (rest : Option ℕ) → GoesOn c.counts → WholeHolds f.whole f.part.items
     → IsAloft f left n a b work got rest → RestsSought f.part.dir f.whole b c work → Began f left a c
-began-filled f left n a b c work got rest tries held aloft sought =
+began-filled f left n a b c work got rest goes held aloft sought =
     λ known all.
     let x = aloft known all in
     let y = sought f (known_after known x.0) (left_over left x.0) (blocks_of x.0) (flies-so f held) (x.1.ran.entries all) x.1.underway in
@@ -375,7 +375,7 @@ began-filled f left n a b c work got rest tries held aloft sought =
         covers = on.covers;
         picks = inl on.picks;
         unended = on.unended;
-        fits = fits-after a.counts c.counts (x.0 ++ y.0) tries on.ran.counts on.ran.went_on;
+        goes_on = goes;
       },
     )
 
@@ -389,8 +389,8 @@ one-picked a b hs one is = by (sends_of hs) one
 
 pub began-sent :
     (f : Flight) (left : Option ℕ) (n : ℕ) (a b c : Course) (work : List Task) (got : Gathering) (rest : Option ℕ)
-    → GoesOn a.counts → IsAloft f left n a b work got rest → is_used_up rest ≡ false → PieceRan f.head b c rest work → c.wire.ahead ≡ later_picks b.wire.ahead → Began f left a c
-began-sent f left n a b c work got rest tries aloft room ran ahead =
+    → GoesOn c.counts → IsAloft f left n a b work got rest → is_used_up rest ≡ false → PieceRan f.head b c rest work → c.wire.ahead ≡ later_picks b.wire.ahead → Began f left a c
+began-sent f left n a b c work got rest goes aloft room ran ahead =
     λ known all.
     let x = aloft known all in
     let y = ran f (known_after known x.0) (blocks_of x.0) refl (x.1.ran.entries all) room x.1.underway in
@@ -401,7 +401,7 @@ began-sent f left n a b c work got rest tries aloft room ran ahead =
         covers = cover-append f.part.items [] x.0 y.0 x.1.covers y.1.covers;
         picks = took-or-more a.wire.ahead b.wire.ahead c.wire.ahead x.0 y.0 x.1.picks (one-picked b.wire.ahead c.wire.ahead y.0 y.1.sent ahead);
         unended = unended-append x.0 y.0 x.1.unended y.1.unended;
-        fits = fits-after a.counts c.counts (x.0 ++ y.0) tries both.counts both.went_on;
+        goes_on = goes;
       },
     )
 

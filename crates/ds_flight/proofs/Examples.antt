@@ -1,26 +1,24 @@
 -- Cases that must not hold.
-use Rattle.std.proofs.Common.{◌≡◌, ◌⊎◌, ℕ, ◌<◌, ◌≤◌, nat_eq, Bool, true, false, List, [], ◌∷◌, ◌++◌, map, Option, Some, None, inl, inr, refl, sym, subst, arith}
+use Rattle.std.proofs.Common.{◌≡◌, ◌⊎◌, ℕ, ◌<◌, nat_eq, Bool, true, false, List, [], ◌∷◌, ◌++◌, map, Option, Some, None, inl, inr, refl, sym, subst, arith}
 use Rattle.ds_base.proofs.TestFacts.{differs}
 use Rattle.ds_base.specs.Order.{key_le}
 use Rattle.ds_desc.specs.declared.desc.RangeDesc.{RangeDesc}
 use Rattle.ds_kind.specs.Request.{span_of}
 use Rattle.ds_kind.specs.declared.batch.Item.{Item}
 use Rattle.ds_kind.specs.declared.reply.Failure.{Failure}
-use Rattle.ds_retry.specs.Counted.{Counts}
 use Rattle.ds_rule.specs.declared.answer.Answer.TheVariants.{Done, Failed, Lost}
 use Rattle.ds_rule.specs.declared.event.Event.{Event}
 use Rattle.ds_rule.specs.declared.journal.JournalStep.{JournalStep}
 use Rattle.ds_rule.specs.declared.journal.JournalStep.TheVariants.{Send}
 use Rattle.ds_rule.specs.Clauses.{IsLost, IsRefused}
 use Rattle.ds_rule.specs.Journal.{Happening, Moved, Did}
-use Rattle.ds_flight.specs.Causes.{failed_sum, its_refusal, one_of, GoesOn, IsDone, IsExhausted, LastMissed, LastSend}
+use Rattle.ds_flight.specs.Causes.{its_refusal, one_of, GoesOn, IsDone, IsExhausted, LastMissed, LastSend}
 use Rattle.ds_flight.specs.Counting.{a_get, piece_of}
 use Rattle.ds_flight.specs.Ends.{EndsNot, NoneEnds}
 use Rattle.ds_flight.specs.Flights.{Flight, PieceOfPart, one_scan, its_front}
 use Rattle.ds_flight.specs.Flown.{Begun}
 use Rattle.ds_flight.specs.Ran.{Course}
 use Rattle.ds_flight.proofs.Joins.{ran-none}
-use Rattle.ds_flight.proofs.Tries.{fits-after}
 
 -- what must lie in one range isn't cut
 abbrev ends_in_b : List Item → Bool
@@ -75,7 +73,7 @@ not_where_it_was_answered h = by h.before h.step h.moves h.last h.missed
         elim (subst (λ t. IsRefused t ⊎ IsLost t) (sym same) missed) [ inl e ↦ e | inr e ↦ e ]
     by (x ∷ xs) s ms last missed = never-nothing xs s ms cc
 
--- before memory was wanted nothing may have happened yet, but not more than the budget lets
+-- before memory was wanted nothing may have happened yet, but the budget isn't used up
 
 pub nothing_began : (f : Flight) (known : List RangeDesc) (left : Option ℕ) (a : Course) → GoesOn a.counts → Begun f known left a a []
 nothing_began f known left a on = record {
@@ -83,9 +81,9 @@ nothing_began f known left a on = record {
   covers = tt;
   picks = inl refl;
   unended = tt;
-  fits = fits-after a.counts a.counts [] on refl tt;
+  goes_on = on;
 }
 
-pub not_over_the_budget :
-    (f : Flight) (known : List RangeDesc) (left : Option ℕ) (a b : Course) (hs : List Happening) → b.counts ≡ record { refused = 1; lost = 1; at_risk = 0; budget = 1 } → Begun f known left a b hs → ⊥
-not_over_the_budget f known left a b hs is begun = let fits : 2 ≤ 1 = subst (λ (n : Counts). failed_sum n ≤ n.budget) is begun.fits in omega (arith, fits)
+pub not_at_the_budget :
+    (f : Flight) (known : List RangeDesc) (left : Option ℕ) (a b : Course) (hs : List Happening) → b.counts ≡ record { refused = 1; lost = 1; at_risk = 0; budget = 2 } → Begun f known left a b hs → ⊥
+not_at_the_budget f known left a b hs is begun = let low : 2 < 2 = subst GoesOn is begun.goes_on in omega (arith, low)

@@ -1,5 +1,5 @@
--- How many tries are left, step by step.
-use Rattle.std.proofs.Common.{◌≡◌, ◌⊎◌, ℕ, ◌+◌, ◌<◌, ◌≤◌, nat_lt, true, false, List, [], ◌∷◌, map, inl, inr, refl, sym, ap, subst, arith}
+-- The step that used up the budget was a miss.
+use Rattle.std.proofs.Common.{◌≡◌, ◌⊎◌, ℕ, ◌<◌, ◌≤◌, nat_lt, true, false, List, [], ◌∷◌, map, inl, inr, refl, ap, subst, arith}
 use Rattle.ds_base.proofs.SmallFacts.{ge_of, lt_of}
 use Rattle.ds_desc.specs.declared.meta.Looked.TheVariants as Looked
 use Rattle.ds_retry.specs.Counted.{Counts}
@@ -12,41 +12,11 @@ use Rattle.ds_rule.specs.Journal.{Happening, Moved, Did}
 use Rattle.ds_flight.specs.Causes.{failed_sum, AllGoOn, GoesOn, LastMissed}
 use Rattle.ds_flight.specs.Counting.{counted, counted_step}
 
--- ---- the counts fit the budget
-
 not-both : {G : Type 0} (n b : ℕ) → n < b → b ≤ n → G
 not-both n b low high = absurd (omega (arith, low, high))
 
 at-least : (n b : ℕ) → n ≡ b → b ≤ n
 at-least n b same = omega (arith, same)
-
-same-fits : (r l b : ℕ) → r + l < b → r + l ≤ b
-same-fits r l b on = omega (arith, on)
-
-refused-fits : (r l b : ℕ) → r + l < b → (r + 1) + l ≤ b
-refused-fits r l b on = omega (arith, on)
-
-lost-fits : (r l b : ℕ) → r + l < b → r + (l + 1) ≤ b
-lost-fits r l b on = omega (arith, on)
-
-step-fits : (c : Counts) (s : JournalStep) → GoesOn c → failed_sum (counted_step c s) ≤ (counted_step c s).budget
-step-fits c (Look k d (Looked.Rows is)) on = same-fits c.refused c.lost c.budget on
-step-fits c (Look k d Looked.Lost) on = lost-fits c.refused c.lost c.budget on
-step-fits c (Send n p (Done rs)) on = same-fits c.refused c.lost c.budget on
-step-fits c (Send n p (Failed f)) on = same-fits c.refused c.lost c.budget on
-step-fits c (Send n p (Refused r)) on = refused-fits c.refused c.lost c.budget on
-step-fits c (Send n p Lost) on = lost-fits c.refused c.lost c.budget on
-
-all-fit : (c : Counts) (hs : List Happening) → failed_sum c ≤ c.budget → AllGoOn c hs → failed_sum (counted c hs) ≤ (counted c hs).budget
-all-fit c [] fits on = fits
-all-fit c (Moved e ∷ hs) fits on = all-fit c hs fits on
-all-fit c (Did s ∷ hs) fits on = all-fit (counted_step c s) hs (step-fits c s on.0) on.1
-
--- where each step was made in time
-pub fits-after : (c d : Counts) (hs : List Happening) → GoesOn c → d ≡ counted c hs → AllGoOn c hs → failed_sum d ≤ d.budget
-fits-after c d hs on counts all = subst (λ (n : Counts). failed_sum n ≤ n.budget) (sym counts) (all-fit c hs (same-fits c.refused c.lost c.budget on) all)
-
--- ---- the step that used it up
 
 missed-later : (h : Happening) (hs : List Happening) → LastMissed hs → LastMissed (h ∷ hs)
 missed-later h hs l = record {
@@ -66,7 +36,7 @@ missed-here s ms hs moves missed = record {
   missed = missed;
 }
 
--- it is refused or lost
+-- the step that uses it up is refused or lost
 uses-up : (c : Counts) (s : JournalStep) → GoesOn c → (counted_step c s).budget ≤ failed_sum (counted_step c s) → IsRefused s ⊎ IsLost s
 uses-up c (Look k d (Looked.Rows is)) on high = not-both (failed_sum c) c.budget on high
 uses-up c (Look k d Looked.Lost) on high = inr tt

@@ -83,6 +83,7 @@ pub(crate) fn turn_away(
     ensures learns { LearnsFrom refusal cache.old cache.new }
     ensures turned { IfOk result (λ s. TurnedAway refusal flying attempts.new at cache.old cache.new work.old.items work.new.items s) }
     ensures goes_on { IfOk result (λ s. GoesOnIfOn attempts.new s) }
+    ensures tries { OnErr result (GoesOn attempts.new) }
 {
     let mut flying = flying;
     learn(cache, &flying.token, &refusal);
@@ -125,6 +126,7 @@ fn send_again(
     ensures sent { IfOk result (λ s. s ≡ lost_sent false attempts.new) }
     ensures work { IfOk result (λ s. work.new.items ≡ lost_work flying at work.old.items s) }
     ensures goes_on { IfOk result (λ s. GoesOnIfOn attempts.new s) }
+    ensures tries { OnErr result (GoesOn attempts.new) }
 {
     match after_loss(attempts, flying.node, risky) {
         Step::SameRoute { .. } => {
@@ -154,6 +156,7 @@ pub(crate) fn after_lost(
     ensures work { IfOk result (λ s. work.new.items ≡ lost_work flying at work.old.items s) }
     ensures goes_on { IfOk result (λ s. GoesOnIfOn attempts.new s) }
     ensures again { OnErr result (ends_at_once risky flying.piece.head.txn ≡ false) }
+    ensures tries { OnErr result (GoesOn attempts.new) }
 {
     if risky && flying.piece.head.txn.is_none() {
         attempts.lose(true);

@@ -15,7 +15,6 @@ use Rattle.ds_kind.specs.declared.reply.Reply.{Reply}
 use Rattle.ds_cover.specs.Coverage.{Covered}
 use Rattle.ds_cover.specs.Items.{AreProper, PositionsRise}
 use Rattle.ds_cover.specs.Laws.{joined as all_blocks}
-use Rattle.ds_retry.specs.Counted.{Counts}
 use Rattle.ds_retry.specs.declared.outcome.PartOutcome.{PartOutcome}
 use Rattle.ds_retry.specs.declared.outcome.PartOutcome.TheVariants.{Done}
 use Rattle.ds_retry.specs.declared.outcome.PartOutcome.TheVariants as Outcome
@@ -29,7 +28,7 @@ use Rattle.ds_rule.specs.Gathered.{Gathered}
 use Rattle.ds_rule.specs.declared.answer.Answer.TheVariants as Answer
 use Rattle.ds_rule.specs.declared.journal.JournalStep.{JournalStep}
 use Rattle.ds_rule.specs.declared.journal.JournalStep.TheVariants.{Look, Send}
-use Rattle.ds_flight.specs.Causes.{AllGoOn, DoneWith, GoesOn, failed_sum}
+use Rattle.ds_flight.specs.Causes.{AllGoOn, DoneWith, GoesOn}
 use Rattle.ds_flight.specs.Counting.{counted}
 use Rattle.ds_flight.specs.Covers.{AllCover}
 use Rattle.ds_flight.specs.Ends.{NoneEnds}
@@ -41,7 +40,6 @@ use Rattle.ds_flight.specs.Picks.{TookPicks}
 use Rattle.ds_flight.specs.Ran.{AreKnown, Course, Ran, RefusesOnly}
 use Rattle.ds_flight.proofs.Accepting.{all-answer, done-gathered}
 use Rattle.ds_flight.proofs.Joins.{counted-append, failures-append, go-on-append, goes-append, known-append, last-append, loses-more, missed-append, refuses-more, rose-left, rose-right, runs-append, took-then, unended-append}
-use Rattle.ds_flight.proofs.Tries.{fits-after}
 use Rattle.ds_mean.specs.InTurn.{AllInTurn, AreAll, IsLeft, items_of, places_at}
 use Rattle.ds_mean.proofs.Covering.{blocks_left, parts_left}
 use Rattle.ds_send.specs.Batched.{BatchBegun, BatchEnded, BatchLeft, BatchRan, IsNotDone, IsOfPart, OfParts}
@@ -363,12 +361,12 @@ part-ended q f known left a b c xs ys us (Outcome.Exhausted refused lost) h same
   );
 }
 
--- ---- before memory was wanted nothing may have happened yet, but not more than the budget lets
+-- ---- before memory was wanted nothing may have happened yet, but the budget isn't used up
 
 pub nothing-began : (q : Asking) (whole : Option Extent) (known : List RangeDesc) (a : Course) → GoesOn a.counts → BatchBegun q whole known a a []
-nothing-began q whole known a on = record { ran = batch-none q whole [] known a; picks = inl refl; unended = tt; fits = fits-after a.counts a.counts [] on refl tt }
+nothing-began q whole known a on = record { ran = batch-none q whole [] known a; picks = inl refl; unended = tt; goes_on = on }
 
-pub not-over-the-budget :
+pub not-at-the-budget :
     (q : Asking) (whole : Option Extent) (known : List RangeDesc) (a b : Course) (hs : List Happening)
-    → b.counts ≡ record { refused = 1; lost = 1; at_risk = 0; budget = 1 } → BatchBegun q whole known a b hs → ⊥
-not-over-the-budget q whole known a b hs is begun = let fits : 2 ≤ 1 = subst (λ (n : Counts). failed_sum n ≤ n.budget) is begun.fits in omega (arith, fits)
+    → b.counts ≡ record { refused = 1; lost = 1; at_risk = 0; budget = 2 } → BatchBegun q whole known a b hs → ⊥
+not-at-the-budget q whole known a b hs is begun = let low : 2 < 2 = subst GoesOn is begun.goes_on in omega (arith, low)

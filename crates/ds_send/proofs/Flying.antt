@@ -18,7 +18,7 @@ use Rattle.ds_retry.specs.declared.outcome.PartOutcome.TheVariants as Outcome
 use Rattle.ds_rule.specs.Asking.{Asking}
 use Rattle.ds_rule.specs.Journal.{Happening, accepted}
 use Rattle.ds_rule.specs.Pieces.{Each}
-use Rattle.ds_flight.specs.Causes.{GoesOn, failed_sum}
+use Rattle.ds_flight.specs.Causes.{GoesOn}
 use Rattle.ds_flight.specs.Flights.{Flight}
 use Rattle.ds_flight.specs.Flown.{Began, Flown, flight}
 use Rattle.ds_flight.specs.Goes.{known_after}
@@ -151,12 +151,9 @@ keeps-began head whole parts i p a b c us k low is n q known h entries =
         ran = more-ran q (flight p head whole) known None a b c so.0 begun.0 us part (of-none q (accepted so.0) h.unlimited) so.1 begun.1.ran begun.1.covers;
         picks = took-or-more a.wire.ahead b.wire.ahead c.wire.ahead so.0 begun.0 so.1.picks begun.1.picks;
         unended = unended-append so.0 begun.0 so.1.unended begun.1.unended;
-        fits = begun.1.fits;
+        goes_on = begun.1.goes_on;
       },
     )
-
-low-fits : (n b : ℕ) → n < b → n ≤ b
-low-fits n b low = omega (arith, low)
 
 -- what was done had begun
 pub done-began : (f : Flight) (left : Option ℕ) (a b : Course) (replies : List Reply) (rest : Option ℕ) (o : PartOutcome) → o ≡ Outcome.Done replies rest → Flown f left a b o → Began f left a b
@@ -169,7 +166,7 @@ done-began f left a b replies rest o is flown known all =
         covers = e.1.covers;
         picks = inl e.1.picks;
         unended = e.1.cause.unended;
-        fits = low-fits (failed_sum b.counts) b.counts.budget e.1.cause.goes_on;
+        goes_on = e.1.cause.goes_on;
       },
     )
 

@@ -19,7 +19,7 @@ use Rattle.ds_rule.specs.Journal.{Accepted, Happening, Moved, Did, Runs, accepte
 use Rattle.ds_rule.specs.Path.{IsHigh, LosesOnly}
 use Rattle.ds_rule.specs.Pieces.{Each, IsOneOf, parts_apart}
 use Rattle.ds_rule.specs.Sending.{AllOf}
-use Rattle.ds_flight.specs.Causes.{AllGoOn, GoesOn, IsAmbiguous, IsExhausted, IsFailed, LiesApart, failed_sum}
+use Rattle.ds_flight.specs.Causes.{AllGoOn, GoesOn, IsAmbiguous, IsExhausted, IsFailed, LiesApart}
 use Rattle.ds_flight.specs.Counting.{counted}
 use Rattle.ds_flight.specs.Ends.{NoneEnds}
 use Rattle.ds_flight.specs.Flights.{Flight}
@@ -123,12 +123,12 @@ abbrev pub PartsFlown : Head → Option Extent → List Part → Course → Cour
 PartsFlown head whole parts a b o =
     (q : Asking) (known : List RangeDesc) → ArePartsOf q head parts → AreKnown known a.entries → (hs : List Happening) × BatchEnded q whole known a b hs o
 
--- what happened before memory was wanted: nothing ended a flight, and each send took a pick, also one that never came
+-- what happened before memory was wanted: nothing ended a flight, tries are left, and each send took a pick, also one that never came
 pub record BatchBegun (q : Asking) (whole : Option Extent) (known : List RangeDesc) (a b : Course) (hs : List Happening) : Type 0 where
   pub ran : BatchRan q whole [] known a b hs
   pub picks : TookPicks a.wire.ahead b.wire.ahead hs ⊎ TookOneMore a.wire.ahead b.wire.ahead hs
   pub unended : NoneEnds hs
-  pub fits : failed_sum b.counts ≤ b.counts.budget
+  pub goes_on : GoesOn b.counts
 
 -- memory was wanting
 abbrev pub PartsBegan : Head → Option Extent → List Part → Course → Course → Type 0
