@@ -1,10 +1,9 @@
 -- What was accepted of a part without a limit, and that its replies are gathered where all of it was done.
-use Rattle.std.proofs.Common.{◌≡◌, ℕ, true, List, [], ◌∷◌, ◌++◌, map, Option, Some, None, inl, inr, refl, sym, ap, ◌∙◌, subst}
-use Rattle.std.specs.List.{flat_map, list_all}
+use Rattle.std.proofs.Common.{◌≡◌, ℕ, List, [], ◌∷◌, ◌++◌, map, None, inl, inr, refl, sym, ap, ◌∙◌, subst}
+use Rattle.std.specs.List.{list_all}
 use Rattle.std.proofs.lemmas.List.{map-append}
 use Rattle.std.proofs.lemmas.List.Concat.{flat_map-append}
 use Rattle.ds_base.proofs.SmallFacts.{and_first, and_second}
-use Rattle.ds_base.specs.Order.{key_le, key_lt}
 use Rattle.ds_base.proofs.OrderedFacts.{le_of_lt}
 use Rattle.ds_kind.specs.Asks.{has_proper_span}
 use Rattle.ds_kind.specs.Parts.{requests_of}

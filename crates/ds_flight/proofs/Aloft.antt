@@ -1,17 +1,14 @@
 -- Where a flight stands between its sends, and how it ends.
-use Rattle.std.proofs.Common.{◌≡◌, ◌⊎◌, ℕ, ◌+◌, ◌<◌, ◌≤◌, nat_lt, cond, false, true, List, [], ◌∷◌, ◌++◌, map, length, get_or, Option, Some, None, Result, Ok, Err, IfOk, inl, inr, refl, sym, ap, ◌∙◌, subst, append_assoc, arith}
-use Rattle.std.proofs.lemmas.Bool.Decides.{nat_tests}
+use Rattle.std.proofs.Common.{◌≡◌, ◌⊎◌, ℕ, ◌+◌, ◌<◌, ◌≤◌, false, true, List, [], ◌∷◌, ◌++◌, map, length, get_or, Option, Some, None, Result, Ok, Err, IfOk, inl, inr, refl, sym, ap, ◌∙◌, subst, arith}
 use Rattle.std.proofs.lemmas.List.Sums.{sum_by-cons}
 use Rattle.std.proofs.lemmas.List.Sorted.{IsPermutation-remove}
 use Rattle.std.proofs.lemmas.Option.{slice_get-get_or, slice_get_within}
-use Rattle.std.specs.List.{position, position_or_len, remove}
+use Rattle.std.specs.List.{position, remove}
 use Rattle.std.specs.declared.alloc.AllocError.{AllocError}
-use Rattle.ds_base.specs.Order.{Extent}
-use Rattle.ds_base.proofs.SmallFacts.{append_nil, some_none, some_same}
+use Rattle.ds_base.proofs.SmallFacts.{append_nil, some_same}
 use Rattle.ds_desc.specs.declared.desc.RangeDesc.{RangeDesc}
 use Rattle.ds_kind.specs.Filled.{filled}
 use Rattle.ds_kind.specs.Left.{is_used_up}
-use Rattle.ds_kind.specs.declared.batch.Head.{Head}
 use Rattle.ds_kind.specs.declared.batch.Item.{Item}
 use Rattle.ds_kind.specs.declared.batch.Part.{Part}
 use Rattle.ds_kind.specs.declared.reply.Reply.{Reply}
@@ -27,24 +24,27 @@ use Rattle.ds_retry.specs.Counted.{Counts}
 use Rattle.ds_retry.specs.declared.outcome.PartOutcome.{PartOutcome}
 use Rattle.ds_retry.specs.declared.outcome.PartOutcome.TheVariants as Outcome
 use Rattle.ds_rule.proofs.Eachs.{each-of, of-get}
-use Rattle.ds_rule.specs.declared.journal.JournalStep.TheVariants.{Send}
+use Rattle.ds_rule.specs.declared.journal.JournalStep.{JournalStep}
+use Rattle.ds_rule.specs.declared.journal.JournalStep.TheVariants.{Look, Send}
+use Rattle.ds_rule.specs.Clauses.{later_picks}
 use Rattle.ds_rule.specs.Journal.{Happening, Moved, Did}
 use Rattle.ds_rule.specs.Pieces.{Each, IsOneOf}
-use Rattle.ds_flight.specs.Causes.{DoneWith, GoesOn, IsAmbiguous, IsExhausted, IsFailed, PartCause, failed_sum}
+use Rattle.ds_flight.specs.Causes.{DoneWith, GoesOn, failed_sum}
 use Rattle.ds_flight.specs.Covers.{AllCover, StepCovers}
-use Rattle.ds_flight.specs.Fills.{Fills, FilledTo, FillingCounts, FliesSo, IsFilled, IsReady, LeavesRest, RestsRouted, RestsSought, tries_left}
+use Rattle.ds_flight.specs.Ends.{NoneEnds}
+use Rattle.ds_flight.specs.Fills.{Fills, FilledTo, FillingCounts, FliesSo, IsFilled, IsReady, LeavesRest, RestsRouted, RestsSought}
 use Rattle.ds_flight.specs.Flights.{Flight}
-use Rattle.ds_flight.specs.Flown.{Began, Ended, Flown, IsUnfinished, SomeLeft, flight}
+use Rattle.ds_flight.specs.Flown.{Began, Flown, IsUnfinished, SomeLeft}
 use Rattle.ds_flight.specs.Goes.{WholeHolds, known_after}
 use Rattle.ds_flight.specs.Left.{arrived, blocks_of, failures, left_over}
 use Rattle.ds_flight.specs.Picked.{most_of, AllDone, Picked, PickedIfDone}
-use Rattle.ds_flight.specs.Picks.{picks_after, sends_of, TookPicks}
+use Rattle.ds_flight.specs.Picks.{picks_after, sends_of, IsOneAtMost, TookOneMore, TookPicks}
 use Rattle.ds_flight.specs.Places.{is_rest, one_if_routed, waiting}
 use Rattle.ds_flight.specs.Queues.{KeepsQueue}
 use Rattle.ds_flight.specs.Ran.{AreKnown, Course, Ran}
-use Rattle.ds_flight.specs.Searches.{Quiet, Searched}
+use Rattle.ds_flight.specs.Searches.{Searched}
 use Rattle.ds_flight.specs.Sends.{load, EndCause, IsProperTask, IsSendable, PieceRan, PieceSent, SentNext}
-use Rattle.ds_flight.specs.Works.{items_of, work_left, IsTask, Underway}
+use Rattle.ds_flight.specs.Works.{items_of, IsTask, Underway}
 use Rattle.ds_flight.specs.declared.fill.Filling.{Filling}
 use Rattle.ds_flight.specs.declared.fill.Filling.TheVariants.{On, NotWhole, Spent}
 use Rattle.ds_flight.specs.declared.sent.Sent.{Sent}
@@ -55,8 +55,9 @@ use Rattle.ds_flight.proofs.Caching.{entries-first}
 use Rattle.ds_flight.proofs.Ending.{arrived-inside, end-append, short-cause, underway-proper}
 use Rattle.ds_flight.proofs.Covers.{cover-append, cover-none, cover-one, routed-covers}
 use Rattle.ds_flight.proofs.Idle.{idle}
-use Rattle.ds_flight.proofs.Joins.{arrived-append, blocks-append, failures-append, known-append, last-append, over-append, ran-append, ran-none, took-then}
+use Rattle.ds_flight.proofs.Joins.{arrived-append, blocks-append, failures-append, known-append, over-append, ran-append, ran-none, took-or-more, took-then, unended-append}
 use Rattle.ds_flight.proofs.Taking.{done-first, done-later, queue-begins, queue-ends, queue-filled, queue-sent, rest-first, Queue}
+use Rattle.ds_flight.proofs.Tries.{spent-missed}
 use Rattle.ds_flight.proofs.Working.{each-more, underway-first}
 
 -- ---- where it stands
@@ -68,6 +69,7 @@ pub record Aloft (f : Flight) (known : List RangeDesc) (left : Option ℕ) (n : 
   pub covers : AllCover f.part.items [] hs
   pub picks : TookPicks a.wire.ahead b.wire.ahead hs
   pub none_failed : failures hs ≡ []
+  pub unended : NoneEnds hs
   pub underway : Underway f (known_after known hs) (blocks_of hs) work
   pub got_is : got ≡ record { wanted = map wanted f.part.items; got = arrived hs }
   pub rest_is : rest ≡ left_over left hs
@@ -92,6 +94,7 @@ aloft-first f left a work got some proper one none =
         covers = tt;
         picks = refl;
         none_failed = refl;
+        unended = tt;
         underway = subst (Underway f known []) (sym one) (underway-first f known some proper);
         got_is = none;
         rest_is = refl;
@@ -114,12 +117,19 @@ searched-picks f known left a b hs s = s.ahead ∙ picks-none a.wire.ahead hs s.
 quiet-after : {X : Type 0} (xs zs : List X) → zs ≡ [] → xs ++ zs ≡ xs
 quiet-after xs zs none = ap (λ ys. xs ++ ys) none ∙ append_nil xs
 
+quiet-unended : (hs : List Happening) → sends_of hs ≡ [] → NoneEnds hs
+quiet-unended [] none = tt
+quiet-unended (Moved e ∷ hs) none = (tt, quiet-unended hs none)
+quiet-unended (Did (Look k d l) ∷ hs) none = (refl, quiet-unended hs none)
+quiet-unended (Did (Send n p a) ∷ hs) none = cc
+
 -- a flight that was searched on, whatever is left of the work then
 pub record SearchedOn (f : Flight) (known : List RangeDesc) (left : Option ℕ) (a b : Course) (got : Gathering) (rest : Option ℕ) (xs ys : List Happening) : Type 0 where
   pub ran : Ran f known left a b (xs ++ ys)
   pub covers : AllCover f.part.items [] (xs ++ ys)
   pub picks : TookPicks a.wire.ahead b.wire.ahead (xs ++ ys)
   pub none_failed : failures (xs ++ ys) ≡ []
+  pub unended : NoneEnds (xs ++ ys)
   pub blocks : blocks_of (xs ++ ys) ≡ blocks_of xs
   pub got_is : got ≡ record { wanted = map wanted f.part.items; got = arrived (xs ++ ys) }
   pub rest_is : rest ≡ left_over left (xs ++ ys)
@@ -132,6 +142,7 @@ searched-on f known left n a b c work got rest xs ys x y = record {
   covers = cover-append f.part.items [] xs ys x.covers (cover-none f.part.items (blocks_of xs) ys y.quiet.sends);
   picks = took-then a.wire.ahead b.wire.ahead c.wire.ahead xs ys x.picks (searched-picks f (known_after known xs) (left_over left xs) b c ys y);
   none_failed = failures-append xs ys ∙ quiet-after (failures xs) (failures ys) y.quiet.none_failed ∙ x.none_failed;
+  unended = unended-append xs ys x.unended (quiet-unended ys y.quiet.sends);
   blocks = blocks-append xs ys ∙ quiet-after (blocks_of xs) (blocks_of ys) y.quiet.blocks;
   got_is = x.got_is ∙ ap (λ (xs : List Arrival). record { wanted = map wanted f.part.items; got = xs }) (sym (arrived-append xs ys ∙ quiet-after (arrived xs) (arrived ys) y.quiet.arrived_none));
   rest_is = x.rest_is ∙ sym (over-append left xs ys ∙ y.quiet.left (left_over left xs));
@@ -158,6 +169,7 @@ aloft-filled f left a b c work new got rest r held aloft is by keeps few =
         covers = on.covers;
         picks = on.picks;
         none_failed = on.none_failed;
+        unended = on.unended;
         underway = subst (λ bs. Underway f (known_after known (x.0 ++ y.0)) bs new) (sym on.blocks) (subst (λ ds. Underway f ds (blocks_of x.0) new) (sym (known-append known x.0 y.0)) y.2);
         got_is = on.got_is;
         rest_is = on.rest_is;
@@ -200,6 +212,7 @@ filled-apart f left n a b c work new got rest r desc held aloft is by counts =
         cause = record {
           idle = idle f (known_after (known_after known x.0) y.0) desc left (x.0 ++ y.0) on.ran.of on.none_failed fits.1
               (subst (λ bs. LeavesRest f (known_after (known_after known x.0) y.0) bs) (sym on.blocks) fits.2);
+          unended = on.unended;
           goes_on = goes;
           is_known = subst (IsOneOf desc) (sym (known-append known x.0 y.0)) fits.0;
           apart = fits.1;
@@ -211,10 +224,10 @@ filled-apart f left n a b c work new got rest r desc held aloft is by counts =
 
 -- no try is left after a lost lookup
 pub filled-spent :
-    (f : Flight) (left : Option ℕ) (n : ℕ) (a b c : Course) (work new : List Task) (got : Gathering) (rest : Option ℕ) (r : Filling) (o : PartOutcome) → WholeHolds f.whole f.part.items
+    (f : Flight) (left : Option ℕ) (n : ℕ) (a b c : Course) (work new : List Task) (got : Gathering) (rest : Option ℕ) (r : Filling) (o : PartOutcome) → GoesOn a.counts → WholeHolds f.whole f.part.items
     → IsAloft f left n a b work got rest → r ≡ Spent → RestsRouted f.part.dir f.whole b c work new r → FillingCounts c.counts r
     → o ≡ Outcome.Exhausted c.counts.refused c.counts.lost → Flown f left a c o
-filled-spent f left n a b c work new got rest r o held aloft is by counts same =
+filled-spent f left n a b c work new got rest r o tries held aloft is by counts same =
     let routed : RestsRouted f.part.dir f.whole b c work new Spent = subst (RestsRouted f.part.dir f.whole b c work new) is by in
     let spent : failed_sum c.counts ≡ c.counts.budget = subst (FillingCounts c.counts) is counts in
     subst (Flown f left a c) (sym same) (λ known all.
@@ -227,7 +240,14 @@ filled-spent f left n a b c work new got rest r o held aloft is by counts same =
         covers = on.covers;
         picks = on.picks;
         picked = tt;
-        cause = record { none_failed = on.none_failed; spent = spent; refused_is = refl; lost_is = refl };
+        cause = record {
+          none_failed = on.none_failed;
+          unended = on.unended;
+          spent = spent;
+          last = spent-missed a.counts c.counts (x.0 ++ y.0) tries on.ran.counts on.ran.went_on spent;
+          refused_is = refl;
+          lost_is = refl;
+        };
         unfinished = rest-left f (known_after (known_after known x.0) y.0) (blocks_of x.0) (x.0 ++ y.0) on.blocks y.2;
       },
     ))
@@ -252,13 +272,13 @@ next-covers f known done p q work new hs u next =
 
 pub aloft-sent :
     (f : Flight) (left : Option ℕ) (n : ℕ) (a b c : Course) (work new : List Task) (got more : Gathering) (rest less : Option ℕ) (s : Sent)
-    → IsAloft f left n a b work got rest → s ≡ Sending.On → PieceSent f.head b c (load work got rest) (load new more less) s → IsFilled (most_of left) work → waiting work ≤ most_of left
+    → IsAloft f left n a b work got rest → is_used_up rest ≡ false → s ≡ Sending.On → PieceSent f.head b c (load work got rest) (load new more less) s → IsFilled (most_of left) work → waiting work ≤ most_of left
     → IsAloft f left (most_of left) a c new more less
-aloft-sent f left n a b c work new got more rest less s aloft is by filled few =
+aloft-sent f left n a b c work new got more rest less s aloft room is by filled few =
     let sent : PieceSent f.head b c (load work got rest) (load new more less) Sending.On = subst (PieceSent f.head b c (load work got rest) (load new more less)) is by in
     λ known all.
     let x = aloft known all in
-    let y = sent f (known_after known x.0) (blocks_of x.0) refl (x.1.ran.entries all) x.1.underway in
+    let y = sent f (known_after known x.0) (blocks_of x.0) refl (x.1.ran.entries all) room x.1.underway in
     let to = y.1.to in (
       x.0 ++ y.0,
       record {
@@ -266,6 +286,7 @@ aloft-sent f left n a b c work new got more rest less s aloft is by filled few =
         covers = cover-append f.part.items [] x.0 y.0 x.1.covers (next-covers f (known_after known x.0) (blocks_of x.0) b.wire.ahead c.wire.ahead work new y.0 x.1.underway y.1.next);
         picks = took-then a.wire.ahead b.wire.ahead c.wire.ahead x.0 y.0 x.1.picks (y.1.next.later ∙ ap (picks_after b.wire.ahead) (sym y.1.next.sent));
         none_failed = failures-append x.0 y.0 ∙ quiet-after (failures x.0) (failures y.0) to.0 ∙ x.1.none_failed;
+        unended = unended-append x.0 y.0 x.1.unended to.3;
         underway = subst (λ bs. Underway f (known_after known (x.0 ++ y.0)) bs new) (sym (blocks-append x.0 y.0)) (subst (λ ds. Underway f ds (blocks_of x.0 ++ blocks_of y.0) new) (sym (known-append known x.0 y.0)) to.2);
         got_is = y.1.got ∙ ap (λ (g : Gathering). record { wanted = g.wanted; got = g.got ++ arrived y.0 }) x.1.got_is ∙ ap (λ (xs : List Arrival). record { wanted = map wanted f.part.items; got = xs }) (sym (arrived-append x.0 y.0));
         rest_is = y.1.left ∙ ap (λ l. left_over l y.0) x.1.rest_is ∙ sym (over-append left x.0 y.0);
@@ -307,49 +328,80 @@ ended-picked f left picks hs ys c (Outcome.Exhausted refused lost) cause = tt
 
 pub sent-ended :
     (f : Flight) (left : Option ℕ) (n : ℕ) (a b c : Course) (work new : List Task) (got more : Gathering) (rest less : Option ℕ) (s : Sent) (o : PartOutcome)
-    → IsAloft f left n a b work got rest → s ≡ Sending.Ended o → PieceSent f.head b c (load work got rest) (load new more less) s → Flown f left a c o
-sent-ended f left n a b c work new got more rest less s o aloft is by =
+    → IsAloft f left n a b work got rest → is_used_up rest ≡ false → s ≡ Sending.Ended o → PieceSent f.head b c (load work got rest) (load new more less) s → Flown f left a c o
+sent-ended f left n a b c work new got more rest less s o aloft room is by =
     let sent : PieceSent f.head b c (load work got rest) (load new more less) (Sending.Ended o) = subst (PieceSent f.head b c (load work got rest) (load new more less)) is by in
     λ known all.
     let x = aloft known all in
-    let y = sent f (known_after known x.0) (blocks_of x.0) refl (x.1.ran.entries all) x.1.underway in (
+    let y = sent f (known_after known x.0) (blocks_of x.0) refl (x.1.ran.entries all) room x.1.underway in (
       x.0 ++ y.0,
       record {
         ran = ran-append f known left a b c x.0 y.0 x.1.ran (subst (λ l. Ran f (known_after known x.0) l b c y.0) x.1.rest_is y.1.ran);
         covers = cover-append f.part.items [] x.0 y.0 x.1.covers (next-covers f (known_after known x.0) (blocks_of x.0) b.wire.ahead c.wire.ahead work new y.0 x.1.underway y.1.next);
         picks = took-then a.wire.ahead b.wire.ahead c.wire.ahead x.0 y.0 x.1.picks (y.1.next.later ∙ ap (picks_after b.wire.ahead) (sym y.1.next.sent));
         picked = ended-picked f left a.wire.ahead (x.0 ++ y.0) y.0 c.counts o y.1.to.0;
-        cause = end-append f known left c.counts x.0 y.0 o x.1.none_failed y.1.to.0;
+        cause = end-append f known left c.counts x.0 y.0 o x.1.none_failed x.1.unended y.1.to.0;
         unfinished = ended-left f (x.0 ++ y.0) y.0 c.counts o y.1.to.0 (piece-left f (known_after known x.0) b.wire.ahead c.wire.ahead work new x.0 y.0 x.1.underway y.1.next y.1.to.1);
       },
     )
 
 -- ---- memory was wanting
 
-pub aloft-began : (f : Flight) (left : Option ℕ) (n : ℕ) (a b : Course) (work : List Task) (got : Gathering) (rest : Option ℕ) → IsAloft f left n a b work got rest → Began f left a b
-aloft-began f left n a b work got rest aloft = λ known all. let x = aloft known all in (x.0, record { ran = x.1.ran; covers = x.1.covers })
+pub aloft-began :
+    (f : Flight) (left : Option ℕ) (n : ℕ) (a b : Course) (work : List Task) (got : Gathering) (rest : Option ℕ) → GoesOn b.counts → IsAloft f left n a b work got rest → Began f left a b
+aloft-began f left n a b work got rest goes aloft = λ known all.
+    let x = aloft known all in (
+      x.0,
+      record {
+        ran = x.1.ran;
+        covers = x.1.covers;
+        picks = inl x.1.picks;
+        unended = x.1.unended;
+        goes_on = goes;
+      },
+    )
 
 pub began-filled :
-    (f : Flight) (left : Option ℕ) (n : ℕ) (a b c : Course) (work : List Task) (got : Gathering) (rest : Option ℕ) → WholeHolds f.whole f.part.items
+    (f : Flight) (left : Option ℕ) (n : ℕ) (a b c : Course) (work : List Task) (got : Gathering) (rest : Option ℕ) → GoesOn c.counts → WholeHolds f.whole f.part.items
     → IsAloft f left n a b work got rest → RestsSought f.part.dir f.whole b c work → Began f left a c
-began-filled f left n a b c work got rest held aloft sought =
+began-filled f left n a b c work got rest goes held aloft sought =
     λ known all.
     let x = aloft known all in
     let y = sought f (known_after known x.0) (left_over left x.0) (blocks_of x.0) (flies-so f held) (x.1.ran.entries all) x.1.underway in
-    let on = searched-on f known left n a b c work got rest x.0 y.0 x.1 y.1 in
-    (x.0 ++ y.0, record { ran = on.ran; covers = on.covers })
+    let on = searched-on f known left n a b c work got rest x.0 y.0 x.1 y.1 in (
+      x.0 ++ y.0,
+      record {
+        ran = on.ran;
+        covers = on.covers;
+        picks = inl on.picks;
+        unended = on.unended;
+        goes_on = goes;
+      },
+    )
+
+-- one pick was used up, and one piece was sent, or none
+one-picked : (a b : List ℕ) (hs : List Happening) → IsOneAtMost (sends_of hs) → b ≡ later_picks a → TookPicks a b hs ⊎ TookOneMore a b hs
+one-picked a b hs one is = by (sends_of hs) one
+  where
+    by : (ss : List JournalStep) → IsOneAtMost ss → (b ≡ picks_after a ss) ⊎ (b ≡ later_picks (picks_after a ss))
+    by [] one = inr is
+    by (s ∷ ss) one = inl (is ∙ ap (picks_after (later_picks a)) (sym one))
 
 pub began-sent :
     (f : Flight) (left : Option ℕ) (n : ℕ) (a b c : Course) (work : List Task) (got : Gathering) (rest : Option ℕ)
-    → IsAloft f left n a b work got rest → PieceRan f.head b c rest work → Began f left a c
-began-sent f left n a b c work got rest aloft ran =
+    → GoesOn c.counts → IsAloft f left n a b work got rest → is_used_up rest ≡ false → PieceRan f.head b c rest work → c.wire.ahead ≡ later_picks b.wire.ahead → Began f left a c
+began-sent f left n a b c work got rest goes aloft room ran ahead =
     λ known all.
     let x = aloft known all in
-    let y = ran f (known_after known x.0) (blocks_of x.0) refl (x.1.ran.entries all) x.1.underway in (
+    let y = ran f (known_after known x.0) (blocks_of x.0) refl (x.1.ran.entries all) room x.1.underway in
+    let both = ran-append f known left a b c x.0 y.0 x.1.ran (subst (λ l. Ran f (known_after known x.0) l b c y.0) x.1.rest_is y.1.ran) in (
       x.0 ++ y.0,
       record {
-        ran = ran-append f known left a b c x.0 y.0 x.1.ran (subst (λ l. Ran f (known_after known x.0) l b c y.0) x.1.rest_is y.1.ran);
+        ran = both;
         covers = cover-append f.part.items [] x.0 y.0 x.1.covers y.1.covers;
+        picks = took-or-more a.wire.ahead b.wire.ahead c.wire.ahead x.0 y.0 x.1.picks (one-picked b.wire.ahead c.wire.ahead y.0 y.1.sent ahead);
+        unended = unended-append x.0 y.0 x.1.unended y.1.unended;
+        goes_on = goes;
       },
     )
 
@@ -390,6 +442,7 @@ flown-whole f left n a b most work got rest replies aloft goes used some filled 
         unfinished = tt;
         cause = record {
           none_failed = x.1.none_failed;
+          unended = x.1.unended;
           goes_on = goes;
           left_is = x.1.rest_is;
           with = subst (λ t. DoneWith t f replies x.0) (sym used) (record {
@@ -474,7 +527,7 @@ flown-short f left a b work got rest o aloft goes used is =
             let q = x.1.queue done in
             let low : waiting work < most_of left = q.1 in
             ends-picked f left a.wire.ahead b.wire.ahead work x.0 (λ d. (x.1.queue d).0) (omega (arith, low, one)) done;
-        cause = short-cause f known (known_after known x.0) left rest b.counts x.0 work _ x.1.none_failed goes x.1.rest_is used x.1.underway
+        cause = short-cause f known (known_after known x.0) left rest b.counts x.0 work _ x.1.none_failed x.1.unended goes x.1.rest_is used x.1.underway
             (ap (λ (g : Gathering). filled f.part.dir (seek_key f.part.dir (joined (map items_of work))) f.part.items (gathered g.wanted g.got)) x.1.got_is);
         unfinished = tt;
       },
@@ -491,11 +544,11 @@ short-if f left a b work got rest (Err e) aloft goes used is = tt
 
 pub sent-goes :
     (f : Flight) (left : Option ℕ) (n : ℕ) (a b c : Course) (work new : List Task) (got more : Gathering) (rest less : Option ℕ) (s : Sent)
-    → IsAloft f left n a b work got rest → s ≡ Sending.On → PieceSent f.head b c (load work got rest) (load new more less) s → GoesOn c.counts
-sent-goes f left n a b c work new got more rest less s aloft is by =
+    → IsAloft f left n a b work got rest → is_used_up rest ≡ false → s ≡ Sending.On → PieceSent f.head b c (load work got rest) (load new more less) s → GoesOn c.counts
+sent-goes f left n a b c work new got more rest less s aloft room is by =
     let sent : PieceSent f.head b c (load work got rest) (load new more less) Sending.On = subst (PieceSent f.head b c (load work got rest) (load new more less)) is by in
     let x = aloft (map (λ e. e.1.desc) a.entries) (entries-first a.entries) in
-    let y = sent f (known_after (map (λ e. e.1.desc) a.entries) x.0) (blocks_of x.0) refl (x.1.ran.entries (entries-first a.entries)) x.1.underway in
+    let y = sent f (known_after (map (λ e. e.1.desc) a.entries) x.0) (blocks_of x.0) refl (x.1.ran.entries (entries-first a.entries)) room x.1.underway in
     y.1.to.1
 
 pub filled-few : (most : ℕ) (c d : Counts) (work new : List Task) (r : Filling) → r ≡ On → FilledTo most c d work new r → waiting work ≤ most → waiting new ≤ most

@@ -9,7 +9,6 @@ use Rattle.ds_cover.specs.Coverage.{Covered}
 use Rattle.ds_cover.proofs.Sharing.{stays-covered}
 use Rattle.ds_desc.specs.declared.desc.RangeDesc.{RangeDesc}
 use Rattle.ds_rule.specs.declared.answer.Answer.{Answer}
-use Rattle.ds_rule.specs.declared.journal.JournalStep.{JournalStep}
 use Rattle.ds_rule.specs.declared.journal.JournalStep.TheVariants.{Look, Send}
 use Rattle.ds_rule.specs.Journal.{Happening, Moved, Did}
 use Rattle.ds_flight.specs.Covers.{AllCover, StepCovers}

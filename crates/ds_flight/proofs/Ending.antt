@@ -35,13 +35,14 @@ use Rattle.ds_rule.proofs.Eachs.{each-append}
 use Rattle.ds_rule.proofs.Passing.{told}
 use Rattle.ds_rule.proofs.Resumes.{done_in, AllLeftIn, LeftIn}
 use Rattle.ds_flight.specs.Causes.{all_gathered, CutShort, DoneWith, GoesOn, PartCause}
+use Rattle.ds_flight.specs.Ends.{NoneEnds}
 use Rattle.ds_flight.specs.Flights.{Flight, AllOfPart}
 use Rattle.ds_flight.specs.Left.{arrived, blocks_of, failures, left_over, replies_by}
 use Rattle.ds_flight.specs.Sends.{EndCause, IsProperTask}
 use Rattle.ds_flight.specs.Works.{items_of, IsTask, Underway}
 use Rattle.ds_flight.specs.declared.work.Task.{Task}
 use Rattle.ds_flight.specs.declared.work.Task.TheVariants.{Rest, Routed}
-use Rattle.ds_flight.proofs.Joins.{failures-append, last-append}
+use Rattle.ds_flight.proofs.Joins.{failures-append, last-append, missed-append, unended-append}
 use Rattle.ds_flight.proofs.Working.{each-more}
 
 -- ---- a send ended it
@@ -52,16 +53,16 @@ failures-more xs ys x none last = failures-append xs ys ∙ ap (λ zs. zs ++ fai
 -- why the last send ended it is why all ended so
 pub end-append :
     (f : Flight) (known : List RangeDesc) (left : Option ℕ) (c : Counts) (xs ys : List Happening) (o : PartOutcome)
-    → failures xs ≡ [] → EndCause c ys o → PartCause f known left c (xs ++ ys) o
-end-append f known left c xs ys (Outcome.Done replies rest) none cause = absurd cause
-end-append f known left c xs ys (Outcome.NotWhole desc) none cause = absurd cause
-end-append f known left c xs ys (Outcome.Failed failure) none cause = record {
+    → failures xs ≡ [] → NoneEnds xs → EndCause c ys o → PartCause f known left c (xs ++ ys) o
+end-append f known left c xs ys (Outcome.Done replies rest) none unended cause = absurd cause
+end-append f known left c xs ys (Outcome.NotWhole desc) none unended cause = absurd cause
+end-append f known left c xs ys (Outcome.Failed failure) none unended cause = record {
   failed = failures-more xs ys _ none cause.failed;
   goes_on = cause.goes_on;
   piece = cause.piece;
-  last = last-append _ _ xs ys cause.last;
+  last = last-append _ _ xs ys unended cause.last;
 }
-end-append f known left c xs ys (Outcome.Ambiguous lost) none cause = record {
+end-append f known left c xs ys (Outcome.Ambiguous lost) none unended cause = record {
   none_failed = failures-more xs ys [] none cause.none_failed;
   fits = cause.fits;
   lost_is = cause.lost_is;
@@ -69,12 +70,14 @@ end-append f known left c xs ys (Outcome.Ambiguous lost) none cause = record {
     piece = cause.at_risk.piece;
     risky = cause.at_risk.risky;
     alone = cause.at_risk.alone;
-    last = last-append _ _ xs ys cause.at_risk.last;
+    last = last-append _ _ xs ys unended cause.at_risk.last;
   };
 }
-end-append f known left c xs ys (Outcome.Exhausted refused lost) none cause = record {
+end-append f known left c xs ys (Outcome.Exhausted refused lost) none unended cause = record {
   none_failed = failures-more xs ys [] none cause.none_failed;
+  unended = unended-append xs ys unended cause.unended;
   spent = cause.spent;
+  last = missed-append xs ys cause.last;
   refused_is = cause.refused_is;
   lost_is = cause.lost_is;
 }
@@ -91,11 +94,12 @@ underway-proper f known done work u = each-more (IsTask f known) (IsProperTask f
 -- what is left is as the used up limit leaves it
 pub short-cause :
     (f : Flight) (known later : List RangeDesc) (left rest : Option ℕ) (c : Counts) (hs : List Happening) (work : List Task) (replies : List Reply)
-    → failures hs ≡ [] → GoesOn c → rest ≡ left_over left hs → is_used_up rest ≡ true → Underway f later (blocks_of hs) work
+    → failures hs ≡ [] → NoneEnds hs → GoesOn c → rest ≡ left_over left hs → is_used_up rest ≡ true → Underway f later (blocks_of hs) work
     → replies ≡ filled f.part.dir (seek_key f.part.dir (joined (map items_of work))) f.part.items (all_gathered f hs)
     → PartCause f known left c hs (Outcome.Done replies rest)
-short-cause f known later left rest c hs work replies none on leaves used u are = record {
+short-cause f known later left rest c hs work replies none unended on leaves used u are = record {
   none_failed = none;
+  unended = unended;
   goes_on = on;
   left_is = leaves;
   with = let short : CutShort f replies hs = record { rest = map items_of work; covered = u.covered; replies_are = are } in subst (λ t. DoneWith t f replies hs) (sym used) short;

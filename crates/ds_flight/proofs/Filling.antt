@@ -1,5 +1,5 @@
 -- Rests are routed, one after another.
-use Rattle.std.proofs.Common.{◌≡◌, ◌⊎◌, ℕ, ◌+◌, ◌<◌, ◌≤◌, true, false, List, [], ◌∷◌, ◌++◌, length, Option, Some, None, refl, sym, ap, ◌∙◌, subst, arith}
+use Rattle.std.proofs.Common.{◌≡◌, ℕ, ◌<◌, true, false, List, [], ◌∷◌, ◌++◌, length, Option, Some, None, refl, sym, ap, ◌∙◌, subst, arith}
 use Rattle.std.proofs.lemmas.List.Sorted.{IsPermutation-insert}
 use Rattle.std.specs.List.{insert}
 use Rattle.ds_base.specs.Order.{Extent}
@@ -34,7 +34,7 @@ use Rattle.ds_flight.specs.declared.fill.Filling.TheVariants.{On, NotWhole, Spen
 use Rattle.ds_flight.specs.declared.route.Routing.{Routing}
 use Rattle.ds_flight.specs.declared.route.Routing.TheVariants as Route
 use Rattle.ds_flight.specs.declared.work.Task.{Task}
-use Rattle.ds_flight.specs.declared.work.Task.TheVariants.{Rest, Routed}
+use Rattle.ds_flight.specs.declared.work.Task.TheVariants.{Rest}
 use Rattle.ds_flight.proofs.Cutting.{piece-items}
 use Rattle.ds_flight.proofs.Joins.{arrived-append, blocks-append, failures-append, known-append, over-append, ran-append, sends-append}
 use Rattle.ds_flight.proofs.Placing.{underway-cut-at}

@@ -1,5 +1,5 @@
 -- Each reply of a piece that was served is of its item's kind, and whole where there is no limit.
-use Rattle.std.proofs.Common.{◌≡◌, ℕ, zero, suc, true, List, [], ◌∷◌, ◌++◌, map, Option, Some, None, inl, inr, refl, sym, ap, ◌∙◌, subst}
+use Rattle.std.proofs.Common.{◌≡◌, ℕ, List, [], ◌∷◌, map, Option, Some, None, inl, inr, refl, ap, ◌∙◌, subst}
 use Rattle.ds_base.specs.Order.{Extent}
 use Rattle.ds_kind.specs.Bodies.{empty_body}
 use Rattle.ds_kind.specs.Left.{left_after}
@@ -20,8 +20,8 @@ use Rattle.ds_rule.proofs.Short.{IsShort, left-by}
 use Rattle.ds_rule.specs.Asking.{Made, Gives, Fails, and_before, at_of, made_by}
 use Rattle.ds_rule.specs.Deliver.{deliver_answer}
 use Rattle.ds_rule.specs.Gathered.{IsBody}
-use Rattle.ds_rule.specs.Journal.{Accepted, pairs}
-use Rattle.ds_rule.specs.Limited.{ask_left, resuming, with_rest}
+use Rattle.ds_rule.specs.Journal.{pairs}
+use Rattle.ds_rule.specs.Limited.{ask_left, with_rest}
 use Rattle.ds_rule.specs.Pieces.{Each}
 use Rattle.ds_rule.specs.Serve.{and_left, resolved_left, serve}
 use Rattle.ds_rule.specs.World.{World}

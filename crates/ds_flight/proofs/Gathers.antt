@@ -1,7 +1,6 @@
 -- What arrived for a part that is covered makes the replies that a journal's accepted items show.
-use Rattle.std.proofs.Common.{◌≡◌, ℕ, ◌<◌, Bool, true, false, cond, List, [], ◌∷◌, ◌++◌, map, filter, reverse, Option, Some, None, refl, sym, ap, ◌∙◌, subst, inl, inr, arith, ◌==◌}
+use Rattle.std.proofs.Common.{◌≡◌, ℕ, ◌<◌, Bool, true, false, cond, List, [], ◌∷◌, ◌++◌, map, filter, reverse, None, refl, sym, ap, ◌∙◌, subst, inl, inr, arith, ◌==◌}
 use Rattle.std.proofs.lemmas.Bool.{eqb-true}
-use Rattle.std.specs.List.{flat_map}
 use Rattle.std.specs.Option.{option_or}
 use Rattle.std.proofs.lemmas.List.{append-nil, append_assoc}
 use Rattle.ds_base.proofs.ListFacts.{last_first}
@@ -11,7 +10,6 @@ use Rattle.ds_kind.specs.Request.{cut_to, span_of}
 use Rattle.ds_kind.specs.declared.batch.Item.{Item}
 use Rattle.ds_kind.specs.declared.reply.Body.{Body}
 use Rattle.ds_kind.specs.declared.reply.Body.TheVariants.{Gone, Rows}
-use Rattle.ds_kind.specs.declared.reply.Reply.{Reply}
 use Rattle.ds_kind.specs.declared.reply.Row.{Row}
 use Rattle.ds_kind.specs.declared.request.Request.{Request}
 use Rattle.ds_kind.specs.declared.request.Request.TheVariants.{Get, Scan, ReverseScan, Put, ConditionalPut, InitPut, Increment, Delete, DeleteRange, EndTxn, QueryIntent, ResolveIntent, ResolveIntentRange, AdminSplit, AdminTransferLease}
@@ -24,7 +22,7 @@ use Rattle.ds_cover.specs.Items as Items
 use Rattle.ds_cover.specs.Laws.{joined as all_items}
 use Rattle.ds_cover.specs.Origins.{IsCut}
 use Rattle.ds_cover.proofs.Covering.{after-in, covered-chain}
-use Rattle.ds_gather.specs.Gathered.{all_keys, all_rows, arrival, arrived, body_at, first_some, gathered, given, in_direction, joined, keys_in, pos_of, reply_of, resume_at, rows_in, start_of, wanted}
+use Rattle.ds_gather.specs.Gathered.{all_keys, all_rows, arrival, arrived, body_at, gathered, given, in_direction, joined, keys_in, pos_of, reply_of, resume_at, rows_in, start_of, wanted}
 use Rattle.ds_gather.specs.declared.arrival.Arrival.{Arrival}
 use Rattle.ds_rule.proofs.Eachs.{each-append}
 use Rattle.ds_rule.specs.Gathered.{Gathered, IsBody, IsGathered, Joins, at_position, begins_at, by_start}

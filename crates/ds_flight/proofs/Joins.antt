@@ -1,5 +1,5 @@
 -- What happened in one call after another.
-use Rattle.std.proofs.Common.{◌≡◌, ℕ, ◌≤◌, true, false, nat_lt, List, [], ◌∷◌, ◌++◌, Option, inl, inr, refl, sym, ap, ◌∙◌, subst, append_assoc, arith}
+use Rattle.std.proofs.Common.{◌≡◌, ◌⊎◌, ℕ, ◌≤◌, true, false, nat_lt, List, [], ◌∷◌, ◌++◌, Option, inl, inr, refl, sym, ap, ◌∙◌, subst, append_assoc, arith}
 use Rattle.ds_base.specs.Counts.{Rose, last_count}
 use Rattle.ds_base.proofs.SmallFacts.{append_nil, ge_of, lt_of}
 use Rattle.ds_desc.specs.declared.desc.RangeDesc.{RangeDesc}
@@ -13,12 +13,13 @@ use Rattle.ds_rule.specs.Journal.{Happening, Moved, Did, Runs}
 use Rattle.ds_rule.specs.Path.{IsHigh, LosesOnly}
 use Rattle.ds_rule.specs.Pieces.{Each}
 use Rattle.ds_rule.specs.World.{World}
-use Rattle.ds_flight.specs.Causes.{LastSend}
+use Rattle.ds_flight.specs.Causes.{AllGoOn, LastMissed, LastSend}
 use Rattle.ds_flight.specs.Counting.{counted, counted_step}
+use Rattle.ds_flight.specs.Ends.{EndsNot, NoneEnds}
 use Rattle.ds_flight.specs.Flights.{Flight, AllOfPart}
 use Rattle.ds_flight.specs.Goes.{Goes, known_after, descs_of, told_by}
 use Rattle.ds_flight.specs.Left.{arrived, arrived_by, block_by, blocks_of, failed_by, failures, left_over, replies_by}
-use Rattle.ds_flight.specs.Picks.{picks_after, sends_by, sends_of, TookPicks}
+use Rattle.ds_flight.specs.Picks.{picks_after, sends_by, sends_of, TookOneMore, TookPicks}
 use Rattle.ds_flight.specs.Ran.{AreKnown, Course, Ran, RefusesOnly}
 
 -- ---- folds over what happened
@@ -66,11 +67,30 @@ took-then a b c xs ys x y = y ∙ ap (λ ps. picks_after ps (sends_of ys)) x ∙
     after-append ps [] ts = refl
     after-append ps (s ∷ ss) ts = after-append (later_picks ps) ss ts
 
-pub last-append : (p : _) (a : _) (xs ys : List Happening) → LastSend p a ys → LastSend p a (xs ++ ys)
-last-append p a xs ys l = record {
+-- and one more perhaps, for a send that never came
+pub took-or-more :
+    (a b c : List ℕ) (xs ys : List Happening) → TookPicks a b xs → TookPicks b c ys ⊎ TookOneMore b c ys → TookPicks a c (xs ++ ys) ⊎ TookOneMore a c (xs ++ ys)
+took-or-more a b c xs ys x (inl y) = inl (took-then a b c xs ys x y)
+took-or-more a b c xs ys x (inr y) = inr (y ∙ ap later_picks (took-then a b (picks_after b (sends_of ys)) xs ys x refl))
+
+pub unended-append : (xs ys : List Happening) → NoneEnds xs → NoneEnds ys → NoneEnds (xs ++ ys)
+unended-append xs ys x y = each-append EndsNot xs ys x y
+
+pub last-append : (p : _) (a : _) (xs ys : List Happening) → NoneEnds xs → LastSend p a ys → LastSend p a (xs ++ ys)
+last-append p a xs ys none l = record {
   before = xs ++ l.before;
   node = l.node;
   last = ap (λ zs. xs ++ zs) l.last ∙ sym (append_assoc xs l.before _);
+  unended = unended-append xs l.before none l.unended;
+}
+
+pub missed-append : (xs ys : List Happening) → LastMissed ys → LastMissed (xs ++ ys)
+missed-append xs ys l = record {
+  before = xs ++ l.before;
+  step = l.step;
+  moves = l.moves;
+  last = ap (λ zs. xs ++ zs) l.last ∙ sym (append_assoc xs l.before _);
+  missed = l.missed;
 }
 
 -- ---- what holds of each step, by what came before it
@@ -88,6 +108,11 @@ pub goes-append : (whole : Option Extent) (known : List RangeDesc) (xs ys : List
 goes-append whole known [] ys a b = b
 goes-append whole known (Moved e ∷ xs) ys a b = goes-append whole known xs ys a b
 goes-append whole known (Did s ∷ xs) ys a b = (a.0, goes-append whole (known ++ descs_of (told_by s)) xs ys a.1 b)
+
+pub go-on-append : (c : Counts) (xs ys : List Happening) → AllGoOn c xs → AllGoOn (counted c xs) ys → AllGoOn c (xs ++ ys)
+go-on-append c [] ys a b = b
+go-on-append c (Moved e ∷ xs) ys a b = go-on-append c xs ys a b
+go-on-append c (Did s ∷ xs) ys a b = (a.0, go-on-append (counted_step c s) xs ys a.1 b)
 
 -- ---- a count rose over a longer way where it rose over a part of it
 
@@ -132,6 +157,7 @@ ran-none f known left a = record {
   of = tt;
   goes = tt;
   counts = refl;
+  went_on = tt;
   refused = omega arith;
   lost = omega arith;
   refuses = tt;
@@ -151,6 +177,7 @@ ran-append f known left a b c xs ys x y = record {
   of = of-append f left xs ys x.of y.of;
   goes = goes-append f.whole known xs ys x.goes y.goes;
   counts = y.counts ∙ ap (λ n. counted n ys) x.counts ∙ sym (counted-append a.counts xs ys);
+  went_on = go-on-append a.counts xs ys x.went_on (subst (λ n. AllGoOn n ys) x.counts y.went_on);
   refused = between a.wire.refused b.wire.refused c.wire.refused x.refused y.refused;
   lost = between a.wire.lost b.wire.lost c.wire.lost x.lost y.lost;
   refuses = each-append (RefusesOnly (Rose a.wire.refused c.wire.refused)) xs ys

@@ -26,6 +26,7 @@ pub mod Sending
 pub mod Stepping
 pub mod Taking
 pub mod TakingOff
+pub mod Tries
 pub mod Turning
 pub mod Waiting
 pub mod Working

@@ -146,6 +146,7 @@ picked-ran f known left a m b es c picks hs same ran =
       of = r.of;
       goes = r.goes;
       counts = r.counts;
+      went_on = r.went_on;
       refused = r.refused;
       lost = r.lost;
       refuses = r.refuses;
@@ -158,8 +159,8 @@ next-sent :
     → m ≡ record a { ahead = later_picks a.ahead } → TakenNext a.ahead old mid at r → b.ahead ≡ m.ahead
     → RoutedSent head (course m es c) (course b fs d) (load mid got left) (load new more rest) r s
     → PieceSent head (course a es c) (course b fs d) (load old got left) (load new more rest) s
-next-sent head a m b es fs c d old mid new got more left rest at r s picked t ahead sent = λ f known done same all u.
-    let went = sent f known done same all (underway-permuted f known done old (Routed r ∷ mid) (taken-out a.ahead old mid at r t) u) in (
+next-sent head a m b es fs c d old mid new got more left rest at r s picked t ahead sent = λ f known done same all room u.
+    let went = sent f known done same all room (underway-permuted f known done old (Routed r ∷ mid) (taken-out a.ahead old mid at r t) u) in (
       went.0,
       record {
         ran = picked-ran f known left a m (course b fs d) es c (later_picks a.ahead) went.0 picked went.1.ran;
@@ -193,9 +194,9 @@ next-ran :
     (head : Head) (a m : Stands) (b : Course) (es : List Entry) (c : Counts) (old mid : List Task) (left : Option ℕ) (at : ℕ) (r : Flying)
     → m ≡ record a { ahead = later_picks a.ahead } → TakenNext a.ahead old mid at r
     → PieceRan head (course m es c) b left (Routed r ∷ mid) → PieceRan head (course a es c) b left old
-next-ran head a m b es c old mid left at r picked t ran = λ f known done same all u.
-    let went = ran f known done same all (underway-permuted f known done old (Routed r ∷ mid) (taken-out a.ahead old mid at r t) u) in
-    (went.0, record { ran = picked-ran f known left a m b es c (later_picks a.ahead) went.0 picked went.1.ran; covers = went.1.covers })
+next-ran head a m b es c old mid left at r picked t ran = λ f known done same all room u.
+    let went = ran f known done same all room (underway-permuted f known done old (Routed r ∷ mid) (taken-out a.ahead old mid at r t) u) in
+    (went.0, record { ran = picked-ran f known left a m b es c (later_picks a.ahead) went.0 picked went.1.ran; covers = went.1.covers; sent = went.1.sent; unended = went.1.unended })
 
 pub next-errs :
     (head : Head) (a m : Stands) (b : Course) (es : List Entry) (c : Counts) (old mid : List Task) (left : Option ℕ) (at : ℕ) (r : Flying) (res : Result Sent AllocError)

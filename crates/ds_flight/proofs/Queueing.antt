@@ -1,20 +1,19 @@
 -- The pieces that wait in turn, while rests are routed.
-use Rattle.std.proofs.Common.{◌≡◌, ◌⊎◌, ℕ, zero, suc, ◌<◌, true, List, [], ◌∷◌, ◌++◌, take, drop, get_or, slice_get, length, Option, Some, None, Result, Ok, Err, IfOk, inl, inr, refl, sym, ap, ◌∙◌, subst, append_assoc, arith}
+use Rattle.std.proofs.Common.{◌≡◌, ℕ, zero, suc, ◌<◌, true, List, [], ◌∷◌, ◌++◌, get_or, slice_get, length, Option, Some, None, Result, Ok, Err, IfOk, inl, inr, refl, sym, ap, ◌∙◌, subst, append_assoc}
 use Rattle.std.proofs.lemmas.List.Quantifiers.{position-Some}
 use Rattle.std.proofs.lemmas.Option.{slice_get-get_or}
 use Rattle.std.specs.List.{insert, position, remove}
 use Rattle.std.specs.declared.alloc.AllocError.{AllocError}
 use Rattle.ds_base.proofs.KeyOrder.{key_lt-trans}
-use Rattle.ds_base.proofs.SmallFacts.{append_nil, none_some, some_none, some_same}
+use Rattle.ds_base.proofs.SmallFacts.{append_nil, none_some, some_same}
 use Rattle.ds_base.specs.declared.value.Dir.{Dir}
 use Rattle.ds_base.specs.declared.value.Dir.TheVariants.{Forward, Reverse}
 use Rattle.ds_kind.specs.declared.batch.Item.{Item}
 use Rattle.ds_kind.specs.declared.batch.Part.{Part}
 use Rattle.ds_cover.proofs.Cutting.{cut-near}
-use Rattle.ds_cover.specs.Cuts.{cut_items, rest_items, seek_key}
+use Rattle.ds_cover.specs.Cuts.{seek_key}
 use Rattle.ds_cut.specs.Pieces.{rest_part}
 use Rattle.ds_rule.specs.Pieces.{Each}
-use Rattle.ds_flight.specs.Fills.{IsReady}
 use Rattle.ds_flight.specs.Picked.{comes_first, InTurn, IsMetBefore}
 use Rattle.ds_flight.specs.Places.{is_rest, placed, rest_if}
 use Rattle.ds_flight.specs.Queues.{pieces_in, rests_in, IsCutAt, IsQueue, KeepsQueue, Queued, RestPlaced}
@@ -24,7 +23,6 @@ use Rattle.ds_flight.specs.declared.work.Flying.{Flying}
 use Rattle.ds_flight.specs.declared.work.Task.{Task}
 use Rattle.ds_flight.specs.declared.work.Task.TheVariants.{Rest, Routed}
 use Rattle.ds_flight.proofs.Filling.{seeks}
-use Rattle.ds_flight.proofs.Placing.{sought-none}
 use Rattle.ds_flight.proofs.Seeking.{cut-sought, rest-sought}
 
 -- ---- blocks in turn

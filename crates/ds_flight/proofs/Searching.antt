@@ -18,6 +18,7 @@ use Rattle.ds_rule.specs.declared.journal.JournalStep.TheVariants.{Look}
 use Rattle.ds_rule.specs.Clauses.{Stands, Stays, Steps, Looks, and_step}
 use Rattle.ds_rule.specs.Journal.{Happening, Moved}
 use Rattle.ds_rule.specs.Pieces.{IsOneOf}
+use Rattle.ds_flight.specs.Causes.{GoesOn}
 use Rattle.ds_flight.specs.Flights.{Flight}
 use Rattle.ds_flight.specs.Goes.{descs_of}
 use Rattle.ds_flight.specs.Ran.{AreKnown, Ran}
@@ -58,6 +59,7 @@ ran-same f known left c a es fs entries = record {
   of = tt;
   goes = tt;
   counts = refl;
+  went_on = tt;
   refused = omega arith;
   lost = omega arith;
   refuses = tt;
@@ -83,25 +85,25 @@ found-here state f known left c e old new before after s one h =
 
 looked-up :
     (f : Flight) (known : List RangeDesc) (left : Option ℕ) (c : Counts) (d : Dir) (k : List ℕ) (old new : Cache) (a b : Stands) (l : Looked) (s : Sought)
-    → d ≡ f.part.dir → lies_ahead d k ≡ true → Steps a b (Look k d l) → FirstContains d k l → AfterLookup l old s new → SearchedTo f known left c a b old.entries new.entries s
-looked-up f known left c d k old new a b (Looked.Rows []) s dir ahead steps first after = never first
-looked-up f known left c d k old new a b (Looked.Rows (i ∷ is)) s dir ahead steps first after =
+    → GoesOn c → d ≡ f.part.dir → lies_ahead d k ≡ true → Steps a b (Look k d l) → FirstContains d k l → AfterLookup l old s new → SearchedTo f known left c a b old.entries new.entries s
+looked-up f known left c d k old new a b (Looked.Rows []) s on dir ahead steps first after = never first
+looked-up f known left c d k old new a b (Looked.Rows (i ∷ is)) s on dir ahead steps first after =
     let step = Look k d (Looked.Rows (i ∷ is)) in
     subst (SearchedTo f known left c a b old.entries new.entries) (sym after.0) (
       and_step steps.moves step,
       record {
-        ran = ran-step f known left (course a old.entries c) (course b new.entries c) step (dir, ahead) tt refl (known-told known (i ∷ is) old new after.1) steps;
+        ran = ran-step f known left (course a old.entries c) (course b new.entries c) step on (dir, ahead) tt refl (known-told known (i ∷ is) old new after.1) steps;
         quiet = look-quiet steps.moves k d (Looked.Rows (i ∷ is));
         ahead = steps.ahead;
       },
       subst (IsOneOf i.desc) (sym (step-known known steps.moves step)) (of-right i.desc known (descs_of (i ∷ is)) (inl refl)),
     )
-looked-up f known left c d k old new a b Looked.Lost s dir ahead steps first after =
+looked-up f known left c d k old new a b Looked.Lost s on dir ahead steps first after =
     let step = Look k d Looked.Lost in
     subst (SearchedTo f known left c a b old.entries new.entries) (sym after.0) (
       and_step steps.moves step,
       record {
-        ran = ran-step f known left (course a old.entries c) (course b new.entries (one_lost false c)) step (dir, ahead) tt refl
+        ran = ran-step f known left (course a old.entries c) (course b new.entries (one_lost false c)) step on (dir, ahead) tt refl
             (λ all. subst (λ n. AreKnown (known ++ []) n.entries) (sym after.1) (subst (λ ds. AreKnown ds old.entries) (sym (append_nil known)) all)) steps;
         quiet = look-quiet steps.moves k d Looked.Lost;
         ahead = steps.ahead;
@@ -110,28 +112,28 @@ looked-up f known left c d k old new a b Looked.Lost s dir ahead steps first aft
 
 sought-by :
     {M : Type 0} (looked : Lookups M) (state : M → Stands) → LooksBy looked state → (f : Flight) (known : List RangeDesc) (left : Option ℕ) (c : Counts) (d : Dir) (k : List ℕ) (o : Option Entry)
-    (old new : Cache) (before after : M) (s : Sought) → ((e : Entry) → o ≡ Some e → IsOneOf e.1.desc known) → d ≡ f.part.dir → lies_ahead d k ≡ true
+    (old new : Cache) (before after : M) (s : Sought) → GoesOn c → ((e : Entry) → o ≡ Some e → IsOneOf e.1.desc known) → d ≡ f.part.dir → lies_ahead d k ≡ true
     → SoughtBy looked d k o old before s new after → SearchedTo f known left c (state before) (state after) old.entries new.entries s
-sought-by looked state law f known left c d k (Some e) old new before after s one dir ahead h = found-here state f known left c e old new before after s (one e refl) h
-sought-by looked state law f known left c d k None old new before after s one dir ahead h =
-    looked-up f known left c d k old new (state before) (state after) h.0 s dir ahead (law before after k d (Ok h.0) h.1) h.2 h.3
+sought-by looked state law f known left c d k (Some e) old new before after s on one dir ahead h = found-here state f known left c e old new before after s (one e refl) h
+sought-by looked state law f known left c d k None old new before after s on one dir ahead h =
+    looked-up f known left c d k old new (state before) (state after) h.0 s on dir ahead (law before after k d (Ok h.0) h.1) h.2 h.3
 
 pub sought :
     {M : Type 0} (looked : Lookups M) (state : M → Stands) → LooksBy looked state → (f : Flight) (known : List RangeDesc) (left : Option ℕ) (c : Counts) (d : Dir) (k : List ℕ)
-    (old new : Cache) (before after : M) (s : Sought) → AreKnown known old.entries → d ≡ f.part.dir → lies_ahead d k ≡ true
+    (old new : Cache) (before after : M) (s : Sought) → GoesOn c → AreKnown known old.entries → d ≡ f.part.dir → lies_ahead d k ≡ true
     → SoughtBy looked d k (found d k old.entries) old before s new after → SearchedTo f known left c (state before) (state after) old.entries new.entries s
-sought looked state law f known left c d k old new before after s all dir ahead h =
-    sought-by looked state law f known left c d k (found d k old.entries) old new before after s (λ e is. each-found (λ x. IsOneOf x.1.desc known) _ old.entries e is all) dir ahead h
+sought looked state law f known left c d k old new before after s on all dir ahead h =
+    sought-by looked state law f known left c d k (found d k old.entries) old new before after s on (λ e is. each-found (λ x. IsOneOf x.1.desc known) _ old.entries e is all) dir ahead h
 
 -- ---- memory was wanting
 
 begun-by :
     {M : Type 0} (looked : Lookups M) (state : M → Stands) → LooksBy looked state → (f : Flight) (known : List RangeDesc) (left : Option ℕ) (c : Counts) (d : Dir) (k : List ℕ) (o : Option Entry)
-    (old new : Cache) (before after : M) → ((e : Entry) → o ≡ Some e → IsOneOf e.1.desc known) → d ≡ f.part.dir → lies_ahead d k ≡ true
+    (old new : Cache) (before after : M) → GoesOn c → ((e : Entry) → o ≡ Some e → IsOneOf e.1.desc known) → d ≡ f.part.dir → lies_ahead d k ≡ true
     → BegunBy looked d k o old before new after → (hs : List Happening) × Searched f known left (course (state before) old.entries c) (course (state after) new.entries c) hs
-begun-by looked state law f known left c d k (Some e) old new before after one dir ahead h =
+begun-by looked state law f known left c d k (Some e) old new before after on one dir ahead h =
     let went = found-here state f known left c e old new before after (Found e.1 e.0) (one e refl) (refl, h.0, h.1) in (went.0, went.1)
-begun-by looked state law f known left c d k None old new before after one dir ahead (inl h) =
+begun-by looked state law f known left c d k None old new before after on one dir ahead (inl h) =
     let stays : Stays (state before) (state after) = law before after k d (Err h.0) h.1 in (
       map Moved stays.moves,
       record {
@@ -144,12 +146,12 @@ begun-by looked state law f known left c d k None old new before after one dir a
     moves-quiet : (ms : List Event) → Quiet (map Moved ms)
     moves-quiet [] = quiet-none
     moves-quiet (m ∷ ms) = let q = moves-quiet ms in record { sends = q.sends; blocks = q.blocks; arrived_none = q.arrived_none; none_failed = q.none_failed; left = q.left }
-begun-by looked state law f known left c d k None old new before after one dir ahead (inr h) =
+begun-by looked state law f known left c d k None old new before after on one dir ahead (inr h) =
     let step = Look k d (Looked.Rows h.0) in
     let steps : Steps (state before) (state after) step = law before after k d (Ok (Looked.Rows h.0)) h.1 in (
       and_step steps.moves step,
       record {
-        ran = ran-step f known left (course (state before) old.entries c) (course (state after) new.entries c) step (dir, ahead) tt refl (known-begun known h.0 old new h.3) steps;
+        ran = ran-step f known left (course (state before) old.entries c) (course (state after) new.entries c) step on (dir, ahead) tt refl (known-begun known h.0 old new h.3) steps;
         quiet = look-quiet steps.moves k d (Looked.Rows h.0);
         ahead = steps.ahead;
       },
@@ -157,7 +159,7 @@ begun-by looked state law f known left c d k None old new before after one dir a
 
 pub begun :
     {M : Type 0} (looked : Lookups M) (state : M → Stands) → LooksBy looked state → (f : Flight) (known : List RangeDesc) (left : Option ℕ) (c : Counts) (d : Dir) (k : List ℕ)
-    (old new : Cache) (before after : M) → AreKnown known old.entries → d ≡ f.part.dir → lies_ahead d k ≡ true
+    (old new : Cache) (before after : M) → GoesOn c → AreKnown known old.entries → d ≡ f.part.dir → lies_ahead d k ≡ true
     → BegunBy looked d k (found d k old.entries) old before new after → (hs : List Happening) × Searched f known left (course (state before) old.entries c) (course (state after) new.entries c) hs
-begun looked state law f known left c d k old new before after all dir ahead h =
-    begun-by looked state law f known left c d k (found d k old.entries) old new before after (λ e is. each-found (λ x. IsOneOf x.1.desc known) _ old.entries e is all) dir ahead h
+begun looked state law f known left c d k old new before after on all dir ahead h =
+    begun-by looked state law f known left c d k (found d k old.entries) old new before after on (λ e is. each-found (λ x. IsOneOf x.1.desc known) _ old.entries e is all) dir ahead h

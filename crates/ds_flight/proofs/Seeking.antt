@@ -1,8 +1,8 @@
 -- A piece that is cut off a rest is sought where the rest was, and what is left of the rest is sought later.
-use Rattle.std.proofs.Common.{◌≡◌, ℕ, Bool, true, false, not, ◌&&◌, cond, List, [], ◌∷◌, ◌++◌, Option, Some, None, refl, sym, ap, ◌∙◌, subst}
+use Rattle.std.proofs.Common.{◌≡◌, ℕ, true, false, not, ◌&&◌, cond, List, [], ◌∷◌, ◌++◌, Some, refl, sym, ap, ◌∙◌, subst}
 use Rattle.ds_base.proofs.KeyFacts.{le_itself, max_first, max_second, min_first, min_second}
 use Rattle.ds_base.proofs.KeyOrder.{after-above, after-tight, key_le-antisymm, key_le_lt-trans}
-use Rattle.ds_base.proofs.OrderedFacts.{le_of_lt, le_of_not_lt, le_trans, lt_le_trans, not_lt_of_le}
+use Rattle.ds_base.proofs.OrderedFacts.{le_of_lt, le_of_not_lt, lt_le_trans, not_lt_of_le}
 use Rattle.ds_base.proofs.SmallFacts.{and_both, and_first, and_second, none_some, not_greater, some_same}
 use Rattle.ds_base.proofs.TestFacts.{not_both}
 use Rattle.ds_base.specs.Order.{Extent, after, holds, key_cmp, key_le, key_lt, max_key, min_key}

@@ -8,6 +8,7 @@ use Rattle.ds_desc.specs.declared.desc.Lease.{Lease}
 use Rattle.ds_desc.specs.declared.desc.RangeDesc.{RangeDesc}
 use Rattle.ds_desc.specs.declared.refusal.Refusal.{Refusal}
 use Rattle.ds_desc.specs.declared.refusal.Refusal.TheVariants.{NotFound, NotLease, Mismatch}
+use Rattle.ds_kind.specs.Left.{is_used_up}
 use Rattle.ds_kind.specs.declared.batch.Piece.{Piece}
 use Rattle.ds_cover.specs.Measures.{AllSpans}
 use Rattle.ds_lease.specs.Turns.{Places, is_among, advanced, fronted, without_node}
@@ -16,6 +17,7 @@ use Rattle.ds_retry.specs.Steps.{turned, leaseholder_taken}
 use Rattle.ds_rule.specs.declared.answer.Answer.{Answer}
 use Rattle.ds_rule.specs.declared.journal.JournalStep.TheVariants.{Send}
 use Rattle.ds_rule.specs.Clauses.{Stands, Steps, and_step}
+use Rattle.ds_flight.specs.Causes.{GoesOn}
 use Rattle.ds_flight.specs.Counting.{counted_step}
 use Rattle.ds_flight.specs.Flights.{Flight, AreOfPart}
 use Rattle.ds_flight.specs.Goes.{HoldsAll, descs_of, told_by}
@@ -31,12 +33,12 @@ use Rattle.ds_flight.proofs.Working.{flying-goes}
 
 pub sent-ran :
     (f : Flight) (known : List RangeDesc) (left : Option ℕ) (a b : Stands) (es fs : List Entry) (c d : Counts) (r : Flying) (p : Piece) (x : Answer)
-    → p ≡ record (r.piece) { head = record (f.head) { left = left } } → IsFlying f known r → d ≡ counted_step c (Send r.node p x)
+    → GoesOn c → is_used_up left ≡ false → p ≡ record (r.piece) { head = record (f.head) { left = left } } → IsFlying f known r → d ≡ counted_step c (Send r.node p x)
     → (AreKnown known es → AreKnown (known ++ descs_of (told_by (Send r.node p x))) fs)
     → (steps : Steps a b (Send r.node p x)) → Ran f known left (course a es c) (course b fs d) (and_step steps.moves (Send r.node p x))
-sent-ran f known left a b es fs c d r p x same flies counts entries steps =
-    let goes = flying-goes f known r left p x same flies in
-    ran-step f known left (course a es c) (course b fs d) (Send r.node p x) goes.0 goes.1 counts entries steps
+sent-ran f known left a b es fs c d r p x on room same flies counts entries steps =
+    let goes = flying-goes f known r left p x room same flies in
+    ran-step f known left (course a es c) (course b fs d) (Send r.node p x) on goes.0 goes.1 counts entries steps
 
 -- where no rows are told, what is known stays
 pub none-told : (known : List RangeDesc) (es fs : List Entry) → (AreKnown known es → AreKnown known fs) → AreKnown known es → AreKnown (known ++ []) fs

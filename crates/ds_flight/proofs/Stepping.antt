@@ -1,5 +1,5 @@
 -- What a flight did in one lookup or one send.
-use Rattle.std.proofs.Common.{◌≡◌, ℕ, List, [], ◌∷◌, ◌++◌, map, Option, refl, sym, ◌∙◌, subst}
+use Rattle.std.proofs.Common.{◌≡◌, ℕ, false, List, [], ◌∷◌, ◌++◌, map, Option, refl, sym, ◌∙◌, subst}
 use Rattle.ds_base.specs.Order.{Extent}
 use Rattle.ds_base.specs.Counts.{Rose}
 use Rattle.ds_base.proofs.SmallFacts.{append_nil}
@@ -13,7 +13,9 @@ use Rattle.ds_rule.specs.Journal.{Moved}
 use Rattle.ds_rule.specs.Moves.{IsMove}
 use Rattle.ds_rule.specs.Path.{IsHigh, LosesOnly}
 use Rattle.ds_rule.specs.Pieces.{Each}
+use Rattle.ds_flight.specs.Causes.{AllGoOn, GoesOn}
 use Rattle.ds_flight.specs.Counting.{counted, counted_step}
+use Rattle.ds_flight.specs.Ends.{NoneEnds, ends_flight}
 use Rattle.ds_flight.specs.Flights.{Flight, AllOfPart, StepOfPart}
 use Rattle.ds_flight.specs.Goes.{Goes, StepGoes, known_after, descs_of, told_by}
 use Rattle.ds_flight.specs.Left.{arrived, arrived_by, block_by, blocks_of, failed_by, failures, left_over, replies_by}
@@ -62,6 +64,10 @@ step-goes : (whole : Option Extent) (known : List RangeDesc) (ms : List Event) (
 step-goes whole known [] s goes = (goes, tt)
 step-goes whole known (m ∷ ms) s goes = step-goes whole known ms s goes
 
+step-on : (c : Counts) (ms : List Event) (s : JournalStep) → GoesOn c → AllGoOn c (and_step ms s)
+step-on c [] s on = (on, tt)
+step-on c (m ∷ ms) s on = step-on c ms s on
+
 step-loses : (r : Type 0) (ms : List Event) (s : JournalStep) → (IsLost s → r) → Each (LosesOnly r) (and_step ms s)
 step-loses r [] s l = (l, tt)
 step-loses r (m ∷ ms) s l = (tt, step-loses r ms s l)
@@ -70,7 +76,19 @@ step-refuses : (r : Type 0) (ms : List Event) (s : JournalStep) → (IsRefused s
 step-refuses r [] s l = (l, tt)
 step-refuses r (m ∷ ms) s l = (tt, step-refuses r ms s l)
 
+pub step-unended : (ms : List Event) (s : JournalStep) → ends_flight s ≡ false → NoneEnds (and_step ms s)
+step-unended [] s ends = (ends, tt)
+step-unended (m ∷ ms) s ends = (tt, step-unended ms s ends)
+
 -- ---- folds over moves alone
+
+pub moves-unended : (ms : List Event) → NoneEnds (map Moved ms)
+moves-unended [] = tt
+moves-unended (m ∷ ms) = (tt, moves-unended ms)
+
+moves-on : (c : Counts) (ms : List Event) → AllGoOn c (map Moved ms)
+moves-on c [] = tt
+moves-on c (m ∷ ms) = moves-on c ms
 
 pub moves-known : (known : List RangeDesc) (ms : List Event) → known_after known (map Moved ms) ≡ known
 moves-known known [] = refl
@@ -102,13 +120,13 @@ moves-refuse r (m ∷ ms) = (tt, moves-refuse r ms)
 
 -- ---- one call of the wire
 
--- a step of the part that goes where it is known to, and is counted
+-- a step of the part that goes where it is known to, and is counted, while there are tries left
 pub ran-step :
     (f : Flight) (known : List RangeDesc) (left : Option ℕ) (a b : Course) (s : JournalStep)
-    → StepOfPart f left s → StepGoes f.whole known s → b.counts ≡ counted_step a.counts s
+    → GoesOn a.counts → StepOfPart f left s → StepGoes f.whole known s → b.counts ≡ counted_step a.counts s
     → (AreKnown known a.entries → AreKnown (known ++ descs_of (told_by s)) b.entries)
     → (x : Steps a.wire b.wire s) → Ran f known left a b (and_step x.moves s)
-ran-step f known left a b s of goes counts entries x = record {
+ran-step f known left a b s on of goes counts entries x = record {
   grown = x.grown;
   runs = x.runs;
   floor = x.floor;
@@ -117,6 +135,7 @@ ran-step f known left a b s of goes counts entries x = record {
   of = step-of f left x.moves s of;
   goes = step-goes f.whole known x.moves s goes;
   counts = counts ∙ sym (step-counted a.counts x.moves s);
+  went_on = step-on a.counts x.moves s on;
   refused = x.refused;
   lost = x.lost;
   refuses = step-refuses (Rose a.wire.refused b.wire.refused) x.moves s x.refuses;
@@ -138,6 +157,7 @@ ran-stays f known left a b counts entries x = record {
   of = moves-of f left x.moves;
   goes = moves-go f.whole known x.moves;
   counts = counts ∙ sym (moves-counted a.counts x.moves);
+  went_on = moves-on a.counts x.moves;
   refused = x.refused;
   lost = x.lost;
   refuses = moves-refuse (Rose a.wire.refused b.wire.refused) x.moves;

@@ -1,5 +1,5 @@
 -- Each pick takes the piece that it names, while none is turned away.
-use Rattle.std.proofs.Common.{◌≡◌, ◌⊎◌, ℕ, zero, suc, ◌+◌, ◌-◌, ◌<◌, ◌≤◌, min, nat_lt, true, false, cond, List, [], ◌∷◌, ◌++◌, get_or, slice_get, length, Option, Some, None, inl, inr, refl, sym, ap, ◌∙◌, subst, append_assoc, arith}
+use Rattle.std.proofs.Common.{◌≡◌, ℕ, zero, suc, ◌+◌, ◌<◌, ◌≤◌, min, nat_lt, true, false, cond, List, [], ◌∷◌, ◌++◌, get_or, slice_get, length, Option, Some, None, inl, inr, refl, sym, ap, ◌∙◌, subst, append_assoc, arith}
 use Rattle.std.proofs.lemmas.Bool.Decides.{nat_tests}
 use Rattle.std.proofs.lemmas.List.{length-append}
 use Rattle.std.proofs.lemmas.List.Edits.{remove-append_left}
@@ -11,7 +11,6 @@ use Rattle.ds_base.specs.declared.value.Dir.{Dir}
 use Rattle.ds_kind.specs.declared.batch.Item.{Item}
 use Rattle.ds_kind.specs.declared.batch.Part.{Part}
 use Rattle.ds_kind.specs.declared.batch.Piece.{Piece}
-use Rattle.ds_rule.proofs.Eachs.{each-append}
 use Rattle.ds_rule.specs.declared.answer.Answer.{Answer}
 use Rattle.ds_rule.specs.declared.answer.Answer.TheVariants.{Done, Failed, Refused, Lost}
 use Rattle.ds_rule.specs.declared.journal.JournalStep.{JournalStep}
@@ -22,8 +21,8 @@ use Rattle.ds_rule.specs.Pieces.{Each}
 use Rattle.ds_flight.specs.Fills.{IsFilled}
 use Rattle.ds_flight.specs.Left.{block_by, blocks_of}
 use Rattle.ds_flight.specs.Picked.{picked_place, AllDone, InTurn, IsDoneStep, IsMetBefore, TakenBy}
-use Rattle.ds_flight.specs.Picks.{sends_by, sends_of, IsDoneAnswer}
-use Rattle.ds_flight.specs.Places.{is_rest, nth_routed, one_if_routed, routed_from, waiting}
+use Rattle.ds_flight.specs.Picks.{sends_of, IsDoneAnswer}
+use Rattle.ds_flight.specs.Places.{is_rest, one_if_routed, routed_from, waiting}
 use Rattle.ds_flight.specs.Queues.{pieces_in, rests_in, IsQueue, KeepsQueue}
 use Rattle.ds_flight.specs.Sends.{SentNext}
 use Rattle.ds_flight.specs.declared.fill.Filling.TheVariants.{On}

@@ -1,11 +1,12 @@
 -- The work that is left of a part, as it is routed, cut, done and given back.
-use Rattle.std.proofs.Common.{◌≡◌, ℕ, ◌<◌, List, [], ◌∷◌, ◌++◌, map, length, Option, Some, None, inl, inr, refl, sym, subst, append_assoc}
+use Rattle.std.proofs.Common.{◌≡◌, ℕ, ◌<◌, List, [], ◌∷◌, ◌++◌, map, length, false, Option, Some, None, inl, inr, refl, sym, subst, append_assoc}
 use Rattle.std.proofs.lemmas.List.Elements.{All-nil, All-cons, All-head, All-tail}
 use Rattle.std.proofs.lemmas.List.Sorted.{All-permutation, IsPermutation-map, IsPermutation-append_right}
 use Rattle.std.specs.List.{All}
 use Rattle.std.specs.List.Sorted.{IsPermutation}
 use Rattle.ds_base.specs.Order.{Extent}
 use Rattle.ds_desc.specs.declared.desc.RangeDesc.{RangeDesc}
+use Rattle.ds_kind.specs.Left.{is_used_up}
 use Rattle.ds_kind.specs.declared.batch.Item.{Item}
 use Rattle.ds_kind.specs.declared.batch.Part.{Part}
 use Rattle.ds_kind.specs.declared.batch.Piece.{Piece}
@@ -117,9 +118,9 @@ flying-rest f known r c same is =
 
 -- ---- a routed piece is sent
 
-pub flying-goes : (f : Flight) (known : List RangeDesc) (r : Flying) (left : Option ℕ) (p : Piece) (a : Answer) → p ≡ record (r.piece) { head = record (f.head) { left = left } } → IsFlying f known r → PieceOfPart f left p × StepGoes f.whole known (Send r.node p a)
-flying-goes f known r left p a same is =
+pub flying-goes : (f : Flight) (known : List RangeDesc) (r : Flying) (left : Option ℕ) (p : Piece) (a : Answer) → is_used_up left ≡ false → p ≡ record (r.piece) { head = record (f.head) { left = left } } → IsFlying f known r → PieceOfPart f left p × StepGoes f.whole known (Send r.node p a)
+flying-goes f known r left p a room same is =
     subst (λ x. PieceOfPart f left x × StepGoes f.whole known (Send r.node x a)) (sym same) (
-      record { head = refl; some = is.some; of = is.of; dir = is.dir },
+      record { head = refl; room = room; some = is.some; of = is.of; dir = is.dir },
       (is.desc, is.is_known, record { replica = is.by.node; range = is.by.range; held = is.by.held; one = is.by.one }),
     )

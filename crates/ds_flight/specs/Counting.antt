@@ -55,13 +55,13 @@ counted c (Did s ∷ hs) = counted (counted_step c s) hs
 abbrev asked_by : Option TxnNo → Head
 asked_by txn = record { at = record { 0 = 5 }; txn = txn; left = None; epoch = 0 }
 
-abbrev piece_of : Option TxnNo → Request → Piece
+abbrev pub piece_of : Option TxnNo → Request → Piece
 piece_of txn r = record { head = asked_by txn; range = 1; items = record { pos = 0; seq = record { 0 = 0 }; request = r } ∷ []; dir = Forward }
 
-abbrev a_get : Request
+abbrev pub a_get : Request
 a_get = Get (record { key = 97 ∷ [] })
 
-abbrev a_put : Request
+abbrev pub a_put : Request
 a_put = Put (record { key = 97 ∷ []; value = Int (pos 1) })
 
 a_lost_put : is_risky (piece_of None a_put) ≡ true

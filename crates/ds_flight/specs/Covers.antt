@@ -1,9 +1,8 @@
 -- Which blocks of a part are sent: the piece of each send is one, beside those that were done and some others.
-use Rattle.std.specs.Prelude.{◌≡◌, ℕ, List, [], ◌∷◌, ◌++◌, None, refl}
+use Rattle.std.specs.Prelude.{◌≡◌, List, [], ◌∷◌, ◌++◌, None, refl}
 use Rattle.std.proofs.Common.{inl, inr}
 use Rattle.ds_base.specs.declared.value.Dir.TheVariants.{Forward}
 use Rattle.ds_kind.specs.declared.batch.Item.{Item}
-use Rattle.ds_kind.specs.declared.batch.Piece.{Piece}
 use Rattle.ds_kind.specs.declared.request.Request.TheVariants.{Get}
 use Rattle.ds_cover.specs.Coverage.{Covered}
 use Rattle.ds_rule.specs.declared.answer.Answer.TheVariants.{Lost}

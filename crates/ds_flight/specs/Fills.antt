@@ -10,7 +10,7 @@ use Rattle.ds_kind.specs.declared.batch.Part.{Part}
 use Rattle.ds_cover.specs.Measures.{left_in}
 use Rattle.ds_retry.specs.Counted.{Counts, first_counts, one_lost}
 use Rattle.ds_rule.specs.Journal.{Happening}
-use Rattle.ds_rule.specs.Pieces.{Each, IsOneOf}
+use Rattle.ds_rule.specs.Pieces.{IsOneOf}
 use Rattle.ds_flight.specs.Causes.{GoesOn, LiesApart, failed_sum}
 use Rattle.ds_flight.specs.Flights.{Flight}
 use Rattle.ds_flight.specs.Goes.{known_after, WholeHolds}

@@ -1,10 +1,10 @@
 -- What is flown, and which pieces of it may be sent.
-use Rattle.std.specs.Prelude.{◌≡◌, ℕ, ◌<◌, true, List, [], ◌∷◌, Option, Some, None, length, refl}
+use Rattle.std.specs.Prelude.{◌≡◌, ℕ, ◌<◌, true, false, List, [], ◌∷◌, Option, Some, None, length, refl}
 use Rattle.std.proofs.Common.{inl, arith}
 use Rattle.ds_base.specs.Order.{Extent}
 use Rattle.ds_base.specs.declared.value.Dir.TheVariants.{Forward}
 use Rattle.ds_desc.specs.Contains.{lies_ahead}
-use Rattle.ds_kind.specs.Left.{left_after}
+use Rattle.ds_kind.specs.Left.{is_used_up, left_after}
 use Rattle.ds_kind.specs.declared.batch.Head.{Head}
 use Rattle.ds_kind.specs.declared.batch.Item.{Item}
 use Rattle.ds_kind.specs.declared.batch.Part.{Part}
@@ -35,9 +35,10 @@ pub record AreOfPart (f : Flight) (items : List Item) : Type 0 where
   pub proper : AreProper items
   pub all : AllAtOnce f.whole f.part.items items
 
--- the piece is of the part, with so much left of the limit
+-- the piece is of the part, with so much left of the limit, of which something is left
 pub record PieceOfPart (f : Flight) (left : Option ℕ) (p : Piece) : Type 0 where
   pub head : p.head ≡ record (f.head) { left = left }
+  pub room : is_used_up left ≡ false
   pub some : 0 < length p.items
   pub of : AreOfPart f p.items
   pub dir : p.dir ≡ f.part.dir
@@ -68,4 +69,7 @@ abbrev pub its_front : Piece
 its_front = record { head = asker; range = 7; items = scan_to (98 ∷ []) ∷ []; dir = Forward }
 
 a_part_is_sent : AllOfPart (one_scan None) None (Did (Send 1 its_front Lost) ∷ [])
-a_part_is_sent = (record { head = refl; some = omega arith; of = record { cuts = inl (record { same = refl; inside = (refl, refl) }, tt); proper = refl; all = tt }; dir = refl }, tt)
+a_part_is_sent = (record { head = refl; room = refl; some = omega arith; of = record { cuts = inl (record { same = refl; inside = (refl, refl) }, tt); proper = refl; all = tt }; dir = refl }, tt)
+
+not_where_nothing_is_left : PieceOfPart (one_scan None) (Some 0) (record its_front { head = record asker { left = Some 0 } }) → ⊥
+not_where_nothing_is_left h = let bad : true ≡ false = h.room in cc

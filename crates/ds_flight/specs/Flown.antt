@@ -1,5 +1,5 @@
 -- What a flight of a part comes to.
-use Rattle.std.specs.Prelude.{ℕ, ◌<◌, List, [], ◌∷◌, ◌++◌, length, Option}
+use Rattle.std.specs.Prelude.{◌⊎◌, ℕ, ◌<◌, List, [], ◌∷◌, ◌++◌, length, Option}
 use Rattle.ds_base.specs.Order.{Extent}
 use Rattle.ds_desc.specs.declared.desc.RangeDesc.{RangeDesc}
 use Rattle.ds_kind.specs.declared.batch.Head.{Head}
@@ -10,12 +10,13 @@ use Rattle.ds_cover.specs.Items.{AreProper}
 use Rattle.ds_retry.specs.declared.outcome.PartOutcome.{PartOutcome}
 use Rattle.ds_retry.specs.declared.outcome.PartOutcome.TheVariants as Outcome
 use Rattle.ds_rule.specs.Journal.{Happening}
-use Rattle.ds_flight.specs.Causes.{PartCause}
+use Rattle.ds_flight.specs.Causes.{GoesOn, PartCause}
 use Rattle.ds_flight.specs.Covers.{AllCover}
+use Rattle.ds_flight.specs.Ends.{NoneEnds}
 use Rattle.ds_flight.specs.Flights.{Flight}
 use Rattle.ds_flight.specs.Left.{blocks_of}
 use Rattle.ds_flight.specs.Picked.{PickedIfDone}
-use Rattle.ds_flight.specs.Picks.{TookPicks}
+use Rattle.ds_flight.specs.Picks.{TookOneMore, TookPicks}
 use Rattle.ds_flight.specs.Ran.{AreKnown, Course, Ran}
 
 abbrev pub flight : Part → Head → Option Extent → Flight
@@ -50,10 +51,13 @@ pub record Ended (f : Flight) (known : List RangeDesc) (left : Option ℕ) (a b 
 abbrev pub Flown : Flight → Option ℕ → Course → Course → PartOutcome → Type 0
 Flown f left a b o = (known : List RangeDesc) → AreKnown known a.entries → (hs : List Happening) × Ended f known left a b hs o
 
--- what happened before memory was wanted
+-- what happened before memory was wanted: nothing ended the flight, tries are left, and each send took a pick, also one that never came
 pub record Begun (f : Flight) (known : List RangeDesc) (left : Option ℕ) (a b : Course) (hs : List Happening) : Type 0 where
   pub ran : Ran f known left a b hs
   pub covers : AllCover f.part.items [] hs
+  pub picks : TookPicks a.wire.ahead b.wire.ahead hs ⊎ TookOneMore a.wire.ahead b.wire.ahead hs
+  pub unended : NoneEnds hs
+  pub goes_on : GoesOn b.counts
 
 -- memory was wanting
 abbrev pub Began : Flight → Option ℕ → Course → Course → Type 0

@@ -1,6 +1,7 @@
 pub mod Causes
 pub mod Counting
 pub mod Covers
+pub mod Ends
 pub mod Fills
 pub mod Flights
 pub mod Flown

@@ -4,7 +4,6 @@ use Rattle.std.specs.List.{remove}
 use Rattle.ds_base.specs.Order.{key_lt}
 use Rattle.ds_base.specs.declared.value.Dir.{Dir}
 use Rattle.ds_base.specs.declared.value.Dir.TheVariants.{Forward, Reverse}
-use Rattle.ds_desc.specs.declared.desc.RangeDesc.{RangeDesc}
 use Rattle.ds_kind.specs.declared.batch.Item.{Item}
 use Rattle.ds_kind.specs.declared.request.Request.TheVariants.{Get}
 use Rattle.ds_cover.specs.Cuts.{seek_key}

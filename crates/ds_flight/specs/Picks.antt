@@ -2,7 +2,6 @@
 use Rattle.std.specs.Prelude.{◌≡◌, ℕ, List, [], ◌∷◌, ◌++◌, None, refl}
 use Rattle.ds_base.specs.declared.value.Dir.TheVariants.{Forward}
 use Rattle.ds_desc.specs.declared.meta.Looked.TheVariants as Looked
-use Rattle.ds_kind.specs.declared.batch.Piece.{Piece}
 use Rattle.ds_rule.specs.declared.answer.Answer.{Answer}
 use Rattle.ds_rule.specs.declared.answer.Answer.TheVariants.{Done, Failed, Refused, Lost}
 use Rattle.ds_rule.specs.declared.journal.JournalStep.{JournalStep}
@@ -29,6 +28,14 @@ picks_after picks (s ∷ sends) = picks_after (later_picks picks) sends
 abbrev pub TookPicks : List ℕ → List ℕ → List Happening → Type 0
 TookPicks before after hs = after ≡ picks_after before (sends_of hs)
 
+-- so they took, and one more was used up, for a send that never came
+abbrev pub TookOneMore : List ℕ → List ℕ → List Happening → Type 0
+TookOneMore before after hs = after ≡ later_picks (picks_after before (sends_of hs))
+
+abbrev pub IsOneAtMost : List JournalStep → Type 0
+IsOneAtMost [] = Unit {0}
+IsOneAtMost (s ∷ sends) = sends ≡ []
+
 abbrev pub IsDoneAnswer : Answer → Type 0
 IsDoneAnswer (Done rs) = Unit {0}
 IsDoneAnswer (Failed f) = ⊥
@@ -45,3 +52,15 @@ two_picks = refl
 
 none_are_left : TookPicks (4 ∷ []) [] (sent Lost ∷ sent (Done []) ∷ [])
 none_are_left = refl
+
+the_next_send_never_came : TookOneMore (4 ∷ 3 ∷ 2 ∷ []) (2 ∷ []) (sent Lost ∷ [])
+the_next_send_never_came = refl
+
+not_two_sends : TookOneMore (4 ∷ 3 ∷ 2 ∷ []) (2 ∷ []) [] → ⊥
+not_two_sends h = cc
+
+one_at_most : IsOneAtMost (sends_of (Did (Look [] Forward Looked.Lost) ∷ sent Lost ∷ []))
+one_at_most = refl
+
+not_two : IsOneAtMost (sends_of (sent Lost ∷ sent Lost ∷ [])) → ⊥
+not_two h = cc

@@ -8,6 +8,7 @@ use Rattle.ds_rule.specs.Clauses.{Stands, IsRefused}
 use Rattle.ds_rule.specs.Journal.{Happening, Moved, Did, Runs}
 use Rattle.ds_rule.specs.Path.{IsHigh, LosesOnly}
 use Rattle.ds_rule.specs.Pieces.{Each, IsOneOf}
+use Rattle.ds_flight.specs.Causes.{AllGoOn}
 use Rattle.ds_flight.specs.Counting.{counted}
 use Rattle.ds_flight.specs.Flights.{Flight, AllOfPart}
 use Rattle.ds_flight.specs.Goes.{Goes, known_after}
@@ -38,8 +39,9 @@ pub record Ran (f : Flight) (known : List RangeDesc) (left : Option ℕ) (a b : 
   -- each step is of the part, and each send goes where a known descriptor says
   pub of : AllOfPart f left hs
   pub goes : Goes f.whole known hs
-  -- every refusal and loss is counted, and comes only where the wire's own count rose
+  -- every refusal and loss is counted, and comes only where the wire's own count rose; there were tries left before each step
   pub counts : b.counts ≡ counted a.counts hs
+  pub went_on : AllGoOn a.counts hs
   pub refused : a.wire.refused ≤ b.wire.refused
   pub lost : a.wire.lost ≤ b.wire.lost
   pub refuses : Each (RefusesOnly (Rose a.wire.refused b.wire.refused)) hs

@@ -1,14 +1,14 @@
 -- What the sending of one piece of a flight comes to.
-use Rattle.std.specs.Prelude.{◌≡◌, ℕ, ◌+◌, ◌<◌, Bool, true, false, ◌&&◌, List, [], ◌∷◌, ◌++◌, length, Option, Some, None, is_none, if◌then◌else◌}
+use Rattle.std.specs.Prelude.{◌≡◌, ℕ, ◌+◌, ◌<◌, Bool, true, false, List, [], ◌∷◌, ◌++◌, length, Option, Some, None, if◌then◌else◌}
 use Rattle.std.specs.List.{insert, remove, slice_get}
 use Rattle.ds_base.specs.Order.{max_key, min_key}
 use Rattle.ds_base.specs.declared.value.Dir.{Dir}
 use Rattle.ds_base.specs.declared.value.Dir.TheVariants.{Forward, Reverse}
-use Rattle.ds_base.specs.declared.value.TxnNo.{TxnNo}
 use Rattle.ds_desc.specs.declared.desc.Info.{Info}
 use Rattle.ds_desc.specs.declared.desc.RangeDesc.{RangeDesc}
 use Rattle.ds_desc.specs.declared.refusal.Refusal.{Refusal}
 use Rattle.ds_desc.specs.declared.refusal.Refusal.TheVariants.{NotFound, NotLease, Mismatch}
+use Rattle.ds_kind.specs.Left.{is_used_up}
 use Rattle.ds_kind.specs.declared.batch.Head.{Head}
 use Rattle.ds_kind.specs.declared.batch.Item.{Item}
 use Rattle.ds_kind.specs.declared.batch.Piece.{Piece}
@@ -30,11 +30,12 @@ use Rattle.ds_rule.specs.Clauses.{later_picks, next_pick}
 use Rattle.ds_rule.specs.Journal.{Happening}
 use Rattle.ds_flight.specs.Causes.{GoesOn, IsAmbiguous, IsExhausted, IsFailed}
 use Rattle.ds_flight.specs.Covers.{AllCover}
+use Rattle.ds_flight.specs.Ends.{NoneEnds}
 use Rattle.ds_flight.specs.Fills.{tries_left}
 use Rattle.ds_flight.specs.Flights.{Flight}
 use Rattle.ds_flight.specs.Goes.{descs_of, known_after}
 use Rattle.ds_flight.specs.Left.{arrived, blocks_of, failures, left_over}
-use Rattle.ds_flight.specs.Picks.{sends_of, IsDoneAnswer}
+use Rattle.ds_flight.specs.Picks.{sends_of, IsDoneAnswer, IsOneAtMost}
 use Rattle.ds_flight.specs.Places.{given_back, nth_routed, waiting}
 use Rattle.ds_flight.specs.Ran.{AreKnown, Course, Ran}
 use Rattle.ds_flight.specs.Works.{items_of, work_left, Underway}
@@ -117,10 +118,6 @@ LearnsFrom x before after = (known : List RangeDesc) → AreKnown known before.e
 
 -- ---- after a loss
 
--- nobody knows what a piece of no transaction left
-abbrev pub ends_at_once : Bool → Option TxnNo → Bool
-ends_at_once risky txn = risky && is_none txn
-
 abbrev pub lost_sent : Bool → Counts → Sent
 lost_sent true c = Ended (Outcome.Ambiguous c.at_risk)
 lost_sent false c = if is_spent c then Ended (Outcome.Exhausted c.refused c.lost) else On
@@ -149,9 +146,9 @@ EndCause c hs (Outcome.Failed failure) = IsFailed c hs failure
 EndCause c hs (Outcome.Ambiguous lost) = IsAmbiguous c hs lost
 EndCause c hs (Outcome.Exhausted refused lost) = IsExhausted c hs refused lost
 
--- the flight goes on with this work, or ended so, and nothing was done then
+-- the flight goes on with this work, and nothing ended it; or it ended so, and nothing was done then
 abbrev pub SentTo : Flight → List RangeDesc → List (List Item) → Counts → List Happening → List Task → Sent → Type 0
-SentTo f known done c hs work On = (failures hs ≡ []) × GoesOn c × Underway f known done work
+SentTo f known done c hs work On = (failures hs ≡ []) × GoesOn c × Underway f known done work × NoneEnds hs
 SentTo f known done c hs work (Ended o) = EndCause c hs o × (blocks_of hs ≡ [])
 
 -- the piece that stood first in the work was sent to its node, and where it was answered Done, it alone left the work
@@ -168,20 +165,22 @@ pub record SendFits (f : Flight) (known : List RangeDesc) (done : List (List Ite
   pub to : SentTo f (known_after known hs) (done ++ blocks_of hs) b.counts hs y.work s
   pub was : WasSent f.head x y r hs
 
--- a piece was sent, for any part of this head, whatever is known and done of it
+-- a piece was sent, for any part of this head, whatever is known and done of it, while something of the limit was left
 abbrev pub RoutedSent : Head → Course → Course → Load → Load → Flying → Sent → Type 0
 RoutedSent head a b x y r s =
-    (f : Flight) (known : List RangeDesc) (done : List (List Item)) → f.head ≡ head → AreKnown known a.entries → Underway f known done (Routed r ∷ x.work)
+    (f : Flight) (known : List RangeDesc) (done : List (List Item)) → f.head ≡ head → AreKnown known a.entries → is_used_up x.left ≡ false → Underway f known done (Routed r ∷ x.work)
     → (hs : List Happening) × SendFits f known done a b x y r s hs
 
--- what happened where memory was wanted: one piece was sent, or none
+-- what happened where memory was wanted: one piece was sent, or none, and it ended nothing
 pub record PieceBegan (f : Flight) (known : List RangeDesc) (done : List (List Item)) (left : Option ℕ) (a b : Course) (hs : List Happening) : Type 0 where
   pub ran : Ran f known left a b hs
   pub covers : AllCover f.part.items done hs
+  pub sent : IsOneAtMost (sends_of hs)
+  pub unended : NoneEnds hs
 
 abbrev pub PieceRan : Head → Course → Course → Option ℕ → List Task → Type 0
 PieceRan head a b left work =
-    (f : Flight) (known : List RangeDesc) (done : List (List Item)) → f.head ≡ head → AreKnown known a.entries → Underway f known done work
+    (f : Flight) (known : List RangeDesc) (done : List (List Item)) → f.head ≡ head → AreKnown known a.entries → is_used_up left ≡ false → Underway f known done work
     → (hs : List Happening) × PieceBegan f known done left a b hs
 
 -- there are fewer tries, or there is less work
@@ -218,10 +217,10 @@ pub record SentFits (f : Flight) (known : List RangeDesc) (done : List (List Ite
   pub to : SentTo f (known_after known hs) (done ++ blocks_of hs) b.counts hs y.work s
   pub next : SentNext a.wire.ahead b.wire.ahead x.work y.work hs
 
--- a piece was picked and sent, for any part of this head, whatever is known and done of it
+-- a piece was picked and sent, for any part of this head, whatever is known and done of it, while something of the limit was left
 abbrev pub PieceSent : Head → Course → Course → Load → Load → Sent → Type 0
 PieceSent head a b x y s =
-    (f : Flight) (known : List RangeDesc) (done : List (List Item)) → f.head ≡ head → AreKnown known a.entries → Underway f known done x.work
+    (f : Flight) (known : List RangeDesc) (done : List (List Item)) → f.head ≡ head → AreKnown known a.entries → is_used_up x.left ≡ false → Underway f known done x.work
     → (hs : List Happening) × SentFits f known done a b x y s hs
 
 -- ---- the end where the limit is used up

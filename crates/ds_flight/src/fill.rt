@@ -58,6 +58,7 @@ fn route_rest<W: Wire>(
     ensures few { OnOk result (AddsOne (Rest rest ∷ work.old.items) work.new.items) }
     ensures placed { IfOk result (λ r. RestPlaced rest at work.old.items work.new.items r) }
     ensures sought { OnErr result (RouteSought dir (course (W.state wire.old) cache.old.entries attempts.old) (course (W.state wire.new) cache.new.entries attempts.new)) }
+    ensures tries { OnErr result (GoesOn attempts.new) }
 {
     rest.known();
     match route(alloc, cache, wire, attempts, &rest, dir)? {
@@ -99,6 +100,7 @@ fn route_at<W: Wire>(
     ensures few { OnOk result (AddsOne work.old.items work.new.items) }
     ensures queue { IfOk result (λ r. KeepsQueue dir work.old.items work.new.items r) }
     ensures sought { OnErr result (RouteSought dir (course (W.state wire.old) cache.old.entries attempts.old) (course (W.state wire.new) cache.new.entries attempts.new)) }
+    ensures tries { OnErr result (GoesOn attempts.new) }
 {
     match work.remove(at) {
         Task::Rest(rest) => route_rest(
@@ -128,6 +130,7 @@ pub(crate) fn fill<W: Wire>(
     ensures queue { IfOk result (λ r. KeepsQueue dir work.old.items work.new.items r) }
     ensures filled { IfOk result (λ r. FilledTo most attempts.old attempts.new work.old.items work.new.items r) }
     ensures sought { OnErr result (RestsSought dir rule.now.whole (course (W.state wire.old) cache.old.entries attempts.old) (course (W.state wire.new) cache.new.entries attempts.new) work.old.items) }
+    ensures tries { OnErr result (GoesOn attempts.new) }
 {
     'rests: while routed_count(work.as_slice()) < most {
         let Some(at) = first_rest(work.as_slice()) else {

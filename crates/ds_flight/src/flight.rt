@@ -69,7 +69,9 @@ fn exhausted(attempts: &Attempts) -> PartOutcome
 /// `Done`: each item was answered. `NotWhole`: what must lie in one range doesn't lie in the one to
 /// which the part's first key was routed, and nothing was done. `Failed`: the last piece that was
 /// sent failed so. `Ambiguous`: the last send was lost, and nobody knows whether it acted.
-/// `Exhausted`: the budget is used up. Want of memory leaves pieces sent that were sent.
+/// `Exhausted`: the budget is used up, by the last step. Nothing is sent after what ends a flight,
+/// nor where no try or nothing of the limit is left. Want of memory leaves pieces sent that were
+/// sent, and tries left; the wire may have picked a piece that it wasn't asked to send.
 pub fn fly<W: Wire>(
     alloc: Global,
     cache: &mut RangeCache,

@@ -41,6 +41,7 @@ pub(crate) fn route<W: Wire>(
     ensures contains { IfOk result (λ r. RouteContains dir rest.now.items r) }
     ensures counts { IfOk result (λ r. RouteCounts attempts.old attempts.new r) }
     ensures sought { OnErr result (RouteSought dir (course (W.state wire.old) cache.old.entries attempts.old) (course (W.state wire.new) cache.new.entries attempts.new)) }
+    ensures tries { OnErr result (GoesOn attempts.new) }
 {
     rest.known();
     let Some(key) = rest.seek() else {

@@ -67,6 +67,7 @@ fn send_routed<W: Wire>(
     ensures few { OnOk result (waiting work.new.items ≤ waiting (Routed flying ∷ work.old.items)) }
     ensures ran { OnErr result (PieceRan head.now (course (W.state wire.old) cache.old.entries attempts.old) (course (W.state wire.new) cache.new.entries attempts.new) left.old (Routed flying ∷ work.old.items)) }
     ensures ahead { (W.state wire.new).ahead ≡ (W.state wire.old).ahead }
+    ensures tries { OnErr result (GoesOn attempts.new) }
 {
     let mut flying = flying;
     flying.piece.head = Head {
@@ -127,6 +128,8 @@ pub(crate) fn send_one<W: Wire>(
     ensures less { IfOk result (λ s. LessensIfGoing attempts.old attempts.new work.old.items work.new.items s) }
     ensures few { OnOk result (waiting work.new.items ≤ waiting work.old.items) }
     ensures ran { OnErr result (PieceRan head.now (course (W.state wire.old) cache.old.entries attempts.old) (course (W.state wire.new) cache.new.entries attempts.new) left.old work.old.items) }
+    ensures picked { (W.state wire.new).ahead ≡ later_picks (W.state wire.old).ahead }
+    ensures tries { OnErr result (GoesOn attempts.new) }
 {
     let (at, flying) = take_next(wire, work);
     send_routed(

@@ -6,7 +6,8 @@ ghost use Rattle.ds_cover.specs.Items.{AreProper};
 ghost use Rattle.ds_retry.specs.Counted.{one_lost, one_refused};
 ghost use Rattle.ds_flight.specs.Causes.{GoesOn};
 ghost use Rattle.ds_flight.specs.Places.{given_back};
-ghost use Rattle.ds_flight.specs.Sends.{ends_at_once, evicted, learned, lost_sent, lost_work, GoesOnIfOn, LearnsFrom, TurnedAway};
+ghost use Rattle.ds_flight.specs.Ends.{ends_at_once};
+ghost use Rattle.ds_flight.specs.Sends.{evicted, learned, lost_sent, lost_work, GoesOnIfOn, LearnsFrom, TurnedAway};
 
 use crate::cut::give_back;
 use crate::sent::Sent;
@@ -82,6 +83,7 @@ pub(crate) fn turn_away(
     ensures learns { LearnsFrom refusal cache.old cache.new }
     ensures turned { IfOk result (λ s. TurnedAway refusal flying attempts.new at cache.old cache.new work.old.items work.new.items s) }
     ensures goes_on { IfOk result (λ s. GoesOnIfOn attempts.new s) }
+    ensures tries { OnErr result (GoesOn attempts.new) }
 {
     let mut flying = flying;
     learn(cache, &flying.token, &refusal);
@@ -124,6 +126,7 @@ fn send_again(
     ensures sent { IfOk result (λ s. s ≡ lost_sent false attempts.new) }
     ensures work { IfOk result (λ s. work.new.items ≡ lost_work flying at work.old.items s) }
     ensures goes_on { IfOk result (λ s. GoesOnIfOn attempts.new s) }
+    ensures tries { OnErr result (GoesOn attempts.new) }
 {
     match after_loss(attempts, flying.node, risky) {
         Step::SameRoute { .. } => {
@@ -152,6 +155,8 @@ pub(crate) fn after_lost(
     ensures sent { IfOk result (λ s. s ≡ lost_sent (ends_at_once risky flying.piece.head.txn) attempts.new) }
     ensures work { IfOk result (λ s. work.new.items ≡ lost_work flying at work.old.items s) }
     ensures goes_on { IfOk result (λ s. GoesOnIfOn attempts.new s) }
+    ensures again { OnErr result (ends_at_once risky flying.piece.head.txn ≡ false) }
+    ensures tries { OnErr result (GoesOn attempts.new) }
 {
     if risky && flying.piece.head.txn.is_none() {
         attempts.lose(true);

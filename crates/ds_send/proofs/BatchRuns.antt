@@ -28,20 +28,21 @@ use Rattle.ds_rule.specs.Gathered.{Gathered}
 use Rattle.ds_rule.specs.declared.answer.Answer.TheVariants as Answer
 use Rattle.ds_rule.specs.declared.journal.JournalStep.{JournalStep}
 use Rattle.ds_rule.specs.declared.journal.JournalStep.TheVariants.{Look, Send}
-use Rattle.ds_flight.specs.Causes.{DoneWith, GoesOn}
+use Rattle.ds_flight.specs.Causes.{AllGoOn, DoneWith, GoesOn}
 use Rattle.ds_flight.specs.Counting.{counted}
 use Rattle.ds_flight.specs.Covers.{AllCover}
+use Rattle.ds_flight.specs.Ends.{NoneEnds}
 use Rattle.ds_flight.specs.Flights.{Flight, AllAtOnce, AllOfPart, StepOfPart}
 use Rattle.ds_flight.specs.Flown.{Ended, SomeLeft}
 use Rattle.ds_flight.specs.Goes.{Goes, StepGoes, descs_of, known_after, told_by}
 use Rattle.ds_flight.specs.Left.{blocks_of, failures, left_over, replies_by}
-use Rattle.ds_flight.specs.Picks.{TookPicks, picks_after, sends_of}
+use Rattle.ds_flight.specs.Picks.{TookPicks}
 use Rattle.ds_flight.specs.Ran.{AreKnown, Course, Ran, RefusesOnly}
 use Rattle.ds_flight.proofs.Accepting.{all-answer, done-gathered}
-use Rattle.ds_flight.proofs.Joins.{counted-append, failures-append, goes-append, known-append, last-append, loses-more, refuses-more, rose-left, rose-right, runs-append}
+use Rattle.ds_flight.proofs.Joins.{counted-append, failures-append, go-on-append, goes-append, known-append, last-append, loses-more, missed-append, refuses-more, rose-left, rose-right, runs-append, took-then, unended-append}
 use Rattle.ds_mean.specs.InTurn.{AllInTurn, AreAll, IsLeft, items_of, places_at}
 use Rattle.ds_mean.proofs.Covering.{blocks_left, parts_left}
-use Rattle.ds_send.specs.Batched.{BatchEnded, BatchLeft, BatchRan, IsNotDone, IsOfPart, OfParts}
+use Rattle.ds_send.specs.Batched.{BatchBegun, BatchEnded, BatchLeft, BatchRan, IsNotDone, IsOfPart, OfParts}
 use Rattle.ds_send.proofs.CoversInTurn.{all-match, covered-places, covers-in-turn, match-items}
 use Rattle.ds_send.proofs.PartSteps.{IsPartOf, part-of-batch, part-rises, rises-left}
 use Rattle.ds_send.proofs.PartsGathered.{PartGives, both-give, none-give}
@@ -63,16 +64,6 @@ turns-both q got [] ys a b = subst (λ z. AllInTurn q.items z ys) (append-nil go
 turns-both q got (Moved e ∷ xs) ys a b = turns-both q got xs ys a b
 turns-both q got (Did s ∷ xs) ys a b = (a.0, turns-both q (got ++ accepted_by s) xs ys a.1 (subst (λ z. AllInTurn q.items z ys) (sym (append_assoc got (accepted_by s) (accepted xs))) b))
 
-sends-both : (xs ys : List Happening) → sends_of (xs ++ ys) ≡ sends_of xs ++ sends_of ys
-sends-both [] ys = refl
-sends-both (Moved e ∷ xs) ys = sends-both xs ys
-sends-both (Did (Look k d l) ∷ xs) ys = sends-both xs ys
-sends-both (Did (Send n p a) ∷ xs) ys = ap (λ zs. Send n p a ∷ zs) (sends-both xs ys)
-
-picks-both : (picks : List ℕ) (xs ys : List JournalStep) → picks_after picks (xs ++ ys) ≡ picks_after (picks_after picks xs) ys
-picks-both picks [] ys = refl
-picks-both picks (s ∷ xs) ys = picks-both _ xs ys
-
 between : (a b c : ℕ) → a ≤ b → b ≤ c → a ≤ c
 between a b c x y = omega (arith, x, y)
 
@@ -83,9 +74,6 @@ parts-none (Some w) q = tt
 parts-both : (whole : Option Extent) (q : Asking) (xs ys : List Happening) → OfParts whole q xs → OfParts whole q ys → OfParts whole q (xs ++ ys)
 parts-both None q xs ys a b = tt
 parts-both (Some w) q xs ys a b = each-append (IsOfPart q) xs ys a b
-
-pub took-both : (a b c : Course) (xs ys : List Happening) → TookPicks a.wire.ahead b.wire.ahead xs → TookPicks b.wire.ahead c.wire.ahead ys → TookPicks a.wire.ahead c.wire.ahead (xs ++ ys)
-took-both a b c xs ys x y = y ∙ ap (λ z. picks_after z (sends_of ys)) x ∙ sym (picks-both a.wire.ahead (sends_of xs) (sends_of ys)) ∙ ap (picks_after a.wire.ahead) (sym (sends-both xs ys))
 
 pub batch-none : (q : Asking) (whole : Option Extent) (got : List Accepted) (known : List RangeDesc) (a : Course) → BatchRan q whole got known a a []
 batch-none q whole got known a = record {
@@ -99,6 +87,7 @@ batch-none q whole got known a = record {
   goes = tt;
   parts = parts-none whole q;
   counts = refl;
+  went_on = tt;
   refused = omega arith;
   lost = omega arith;
   refuses = tt;
@@ -120,6 +109,7 @@ batch-append q whole got known a b c xs ys x y = record {
   goes = goes-append None known xs ys x.goes y.goes;
   parts = parts-both whole q xs ys x.parts y.parts;
   counts = y.counts ∙ ap (λ n. counted n ys) x.counts ∙ sym (counted-append a.counts xs ys);
+  went_on = go-on-append a.counts xs ys x.went_on (subst (λ n. AllGoOn n ys) x.counts y.went_on);
   refused = between a.wire.refused b.wire.refused c.wire.refused x.refused y.refused;
   lost = between a.wire.lost b.wire.lost c.wire.lost x.lost y.lost;
   refuses = each-append (RefusesOnly (Rose a.wire.refused c.wire.refused)) xs ys
@@ -184,6 +174,7 @@ part-ran q f got known left a b hs h all same ran covers = record {
   goes = all-go f.whole known hs ran.goes;
   parts = its-parts q f left hs h ran.of;
   counts = ran.counts;
+  went_on = ran.went_on;
   refused = ran.refused;
   lost = ran.lost;
   refuses = ran.refuses;
@@ -220,10 +211,11 @@ pub record PartsDone (q : Asking) (whole : Option Extent) (parts : List Part) (k
   pub ran : BatchRan q whole [] known a b hs
   pub picks : TookPicks a.wire.ahead b.wire.ahead hs
   pub none_failed : failures hs ≡ []
+  pub unended : NoneEnds hs
   pub gives : PartGives (all_items parts) (accepted hs) replies
 
 pub parts-first : (q : Asking) (whole : Option Extent) (known : List RangeDesc) (a : Course) → PartsDone q whole [] known a a [] []
-parts-first q whole known a = record { ran = batch-none q whole [] known a; picks = refl; none_failed = refl; gives = none-give }
+parts-first q whole known a = record { ran = batch-none q whole [] known a; picks = refl; none_failed = refl; unended = tt; gives = none-give }
 
 one-more-item : (ps : List Part) (p : Part) → all_items (ps ++ p ∷ []) ≡ all_items ps ++ p.items
 one-more-item ps p = flat_map-append (λ (t : Part). t.items) ps (p ∷ []) ∙ ap (λ z. all_items ps ++ z) (append-nil p.items)
@@ -245,8 +237,9 @@ pub parts-more :
     → Ended f (known_after known xs) None b c ys (Done vs rest) → PartsDone q f.whole (h.before ++ f.part ∷ []) known a c (xs ++ ys) (us ++ vs)
 parts-more q f known a b c xs ys us vs rest h none proper d e = record {
   ran = more-ran q f known None a b c xs ys us h (of-none q (accepted xs) none) d e.ran e.covers;
-  picks = took-both a b c xs ys d.picks e.picks;
+  picks = took-then a.wire.ahead b.wire.ahead c.wire.ahead xs ys d.picks e.picks;
   none_failed = failures-append xs ys ∙ ap (λ z. z ++ failures ys) d.none_failed ∙ e.cause.none_failed;
+  unended = unended-append xs ys d.unended e.cause.unended;
   gives =
       subst (λ z. PartGives z (accepted (xs ++ ys)) (us ++ vs)) (sym (one-more-item h.before f.part))
       (subst (λ z. PartGives (all_items h.before ++ f.part.items) z (us ++ vs)) (sym (accepted-both xs ys))
@@ -266,6 +259,7 @@ all-done q whole parts known a b hs replies rest all on d = record {
   picks = d.picks;
   ends = (
     d.none_failed,
+    d.unended,
     on,
     record {
       all = subst (λ z. AreAll z (items_of (accepted hs))) all d.gives.all;
@@ -306,9 +300,10 @@ pub part-ended :
 part-ended q f known left a b c xs ys us (Done replies rest) h same not d e = absurd not
 part-ended q f known left a b c xs ys us (Outcome.NotWhole desc) h same not d e = record {
   ran = more-ran q f known left a b c xs ys us h same d e.ran e.covers;
-  picks = took-both a b c xs ys d.picks e.picks;
+  picks = took-then a.wire.ahead b.wire.ahead c.wire.ahead xs ys d.picks e.picks;
   ends = (
     none-too xs ys d.none_failed e.cause.idle.failed,
+    unended-append xs ys d.unended e.cause.unended,
     e.cause.goes_on,
     record {
       is_known = known-later desc known xs ys e.cause.is_known;
@@ -321,20 +316,20 @@ part-ended q f known left a b c xs ys us (Outcome.NotWhole desc) h same not d e 
 }
 part-ended q f known left a b c xs ys us (Outcome.Failed failure) h same not d e = record {
   ran = more-ran q f known left a b c xs ys us h same d e.ran e.covers;
-  picks = took-both a b c xs ys d.picks e.picks;
+  picks = took-then a.wire.ahead b.wire.ahead c.wire.ahead xs ys d.picks e.picks;
   ends = (
     record {
       failed = failures-append xs ys ∙ ap (λ z. z ++ failures ys) d.none_failed ∙ e.cause.failed;
       goes_on = e.cause.goes_on;
       piece = e.cause.piece;
-      last = last-append e.cause.piece (Answer.Failed failure) xs ys e.cause.last;
+      last = last-append e.cause.piece (Answer.Failed failure) xs ys d.unended e.cause.last;
     },
     part-left q f known a b c xs ys us h d e.ran.runs e.unfinished,
   );
 }
 part-ended q f known left a b c xs ys us (Outcome.Ambiguous lost) h same not d e = record {
   ran = more-ran q f known left a b c xs ys us h same d e.ran e.covers;
-  picks = took-both a b c xs ys d.picks e.picks;
+  picks = took-then a.wire.ahead b.wire.ahead c.wire.ahead xs ys d.picks e.picks;
   ends = (
     record {
       none_failed = none-too xs ys d.none_failed e.cause.none_failed;
@@ -344,7 +339,7 @@ part-ended q f known left a b c xs ys us (Outcome.Ambiguous lost) h same not d e
         piece = e.cause.at_risk.piece;
         risky = e.cause.at_risk.risky;
         alone = e.cause.at_risk.alone;
-        last = last-append e.cause.at_risk.piece Answer.Lost xs ys e.cause.at_risk.last;
+        last = last-append e.cause.at_risk.piece Answer.Lost xs ys d.unended e.cause.at_risk.last;
       };
     },
     part-left q f known a b c xs ys us h d e.ran.runs e.unfinished,
@@ -352,14 +347,26 @@ part-ended q f known left a b c xs ys us (Outcome.Ambiguous lost) h same not d e
 }
 part-ended q f known left a b c xs ys us (Outcome.Exhausted refused lost) h same not d e = record {
   ran = more-ran q f known left a b c xs ys us h same d e.ran e.covers;
-  picks = took-both a b c xs ys d.picks e.picks;
+  picks = took-then a.wire.ahead b.wire.ahead c.wire.ahead xs ys d.picks e.picks;
   ends = (
     record {
       none_failed = none-too xs ys d.none_failed e.cause.none_failed;
+      unended = unended-append xs ys d.unended e.cause.unended;
       spent = e.cause.spent;
+      last = missed-append xs ys e.cause.last;
       refused_is = e.cause.refused_is;
       lost_is = e.cause.lost_is;
     },
     part-left q f known a b c xs ys us h d e.ran.runs e.unfinished,
   );
 }
+
+-- ---- before memory was wanted nothing may have happened yet, but the budget isn't used up
+
+pub nothing-began : (q : Asking) (whole : Option Extent) (known : List RangeDesc) (a : Course) → GoesOn a.counts → BatchBegun q whole known a a []
+nothing-began q whole known a on = record { ran = batch-none q whole [] known a; picks = inl refl; unended = tt; goes_on = on }
+
+pub not-at-the-budget :
+    (q : Asking) (whole : Option Extent) (known : List RangeDesc) (a b : Course) (hs : List Happening)
+    → b.counts ≡ record { refused = 1; lost = 1; at_risk = 0; budget = 2 } → BatchBegun q whole known a b hs → ⊥
+not-at-the-budget q whole known a b hs is begun = let low : 2 < 2 = subst GoesOn is begun.goes_on in omega (arith, low)

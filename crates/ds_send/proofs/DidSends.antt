@@ -113,8 +113,8 @@ shows-used-up budget (suc n) q c hs refused lost is at e left =
 shows-why :
     (budget : ℕ) (q : Asking) (whole : Option Extent) (known : List RangeDesc) (c : Counts) (hs : List Happening) (o : PartOutcome)
     → c ≡ counted (first_counts budget) hs → BatchEnds q whole known c hs o → ShowsWhy budget q hs (settled_as c o)
-shows-why budget q whole known c hs (Ends.Done replies rest) is e = e.2
-shows-why budget q whole known c hs (Ends.NotWhole desc) is e = e.3
+shows-why budget q whole known c hs (Ends.Done replies rest) is e = e.3
+shows-why budget q whole known c hs (Ends.NotWhole desc) is e = e.4
 shows-why budget q whole known c hs (Ends.Failed f) is e = shows-failure budget q c hs f e.0 e.1
 shows-why budget q whole known c hs (Ends.Ambiguous lost) is e =
     inr (λ told. not-told e.0.at_risk.last.before e.0.at_risk.last.node e.0.at_risk.piece (subst (Each IsTold) e.0.at_risk.last.last told))

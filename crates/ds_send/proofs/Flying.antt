@@ -1,5 +1,5 @@
 -- The parts of a batch are flown one after another.
-use Rattle.std.proofs.Common.{◌≡◌, ℕ, zero, suc, ◌+◌, ◌<◌, ◌≤◌, true, false, ◌||◌, List, [], ◌∷◌, ◌++◌, map, length, take, drop, get_or, Option, Some, None, refl, sym, ap, ◌∙◌, subst, arith}
+use Rattle.std.proofs.Common.{◌≡◌, ℕ, zero, suc, ◌+◌, ◌<◌, ◌≤◌, true, false, ◌||◌, List, [], ◌∷◌, ◌++◌, map, length, take, drop, get_or, Option, Some, None, inl, refl, sym, ap, ◌∙◌, subst, arith}
 use Rattle.std.specs.List.{list_any}
 use Rattle.std.proofs.lemmas.List.{map-append, take_more, take_all}
 use Rattle.std.proofs.lemmas.List.Concat.{flat_map-append}
@@ -24,6 +24,7 @@ use Rattle.ds_flight.specs.Flown.{Began, Flown, flight}
 use Rattle.ds_flight.specs.Goes.{known_after}
 use Rattle.ds_flight.specs.Ran.{AreKnown, Course}
 use Rattle.ds_flight.proofs.Caching.{entries-first}
+use Rattle.ds_flight.proofs.Joins.{took-or-more, unended-append}
 use Rattle.ds_send.specs.Batched.{ArePartsOf, IsFlyable, NextFlown, PartsBegan, PartsFlown}
 use Rattle.ds_send.proofs.BatchRuns.{PartsDone, all-done, more-ran, of-none, part-ended, parts-first, parts-more}
 use Rattle.ds_send.proofs.PartSteps.{IsPartOf}
@@ -144,12 +145,30 @@ unfolding part-at
 keeps-began head whole parts i p a b c us k low is n q known h entries =
     let so = k.done q known h entries in
     let part = part-at q head whole parts i p p h low is in
-    let begun = n (known_after known so.0) (so.1.ran.entries entries) in
-    (so.0 ++ begun.0, more-ran q (flight p head whole) known None a b c so.0 begun.0 us part (of-none q (accepted so.0) h.unlimited) so.1 begun.1.ran begun.1.covers)
+    let begun = n (known_after known so.0) (so.1.ran.entries entries) in (
+      so.0 ++ begun.0,
+      record {
+        ran = more-ran q (flight p head whole) known None a b c so.0 begun.0 us part (of-none q (accepted so.0) h.unlimited) so.1 begun.1.ran begun.1.covers;
+        picks = took-or-more a.wire.ahead b.wire.ahead c.wire.ahead so.0 begun.0 so.1.picks begun.1.picks;
+        unended = unended-append so.0 begun.0 so.1.unended begun.1.unended;
+        goes_on = begun.1.goes_on;
+      },
+    )
 
--- what was flown had begun
-pub flown-began : (f : Flight) (left : Option ℕ) (a b : Course) (o : PartOutcome) → Flown f left a b o → Began f left a b
-flown-began f left a b o flown known all = let e = flown known all in (e.0, record { ran = e.1.ran; covers = e.1.covers })
+-- what was done had begun
+pub done-began : (f : Flight) (left : Option ℕ) (a b : Course) (replies : List Reply) (rest : Option ℕ) (o : PartOutcome) → o ≡ Outcome.Done replies rest → Flown f left a b o → Began f left a b
+done-began f left a b replies rest o is flown known all =
+    let done : Flown f left a b (Outcome.Done replies rest) = subst (Flown f left a b) is flown in
+    let e = done known all in (
+      e.0,
+      record {
+        ran = e.1.ran;
+        covers = e.1.covers;
+        picks = inl e.1.picks;
+        unended = e.1.cause.unended;
+        goes_on = e.1.cause.goes_on;
+      },
+    )
 
 -- ---- as the calls have it
 

@@ -1,5 +1,5 @@
 -- What the flights of a batch's parts did, one after another.
-use Rattle.std.specs.Prelude.{◌≡◌, ℕ, ◌<◌, ◌≤◌, true, false, List, [], ◌++◌, map, length, Option, Some, None}
+use Rattle.std.specs.Prelude.{◌≡◌, ◌⊎◌, ℕ, ◌<◌, ◌≤◌, true, false, List, [], ◌++◌, map, length, Option, Some, None}
 use Rattle.std.specs.List.{list_any}
 use Rattle.ds_base.specs.Counts.{Rose}
 use Rattle.ds_base.specs.Order.{Extent}
@@ -19,13 +19,14 @@ use Rattle.ds_rule.specs.Journal.{Accepted, Happening, Moved, Did, Runs, accepte
 use Rattle.ds_rule.specs.Path.{IsHigh, LosesOnly}
 use Rattle.ds_rule.specs.Pieces.{Each, IsOneOf, parts_apart}
 use Rattle.ds_rule.specs.Sending.{AllOf}
-use Rattle.ds_flight.specs.Causes.{GoesOn, IsAmbiguous, IsExhausted, IsFailed, LiesApart}
+use Rattle.ds_flight.specs.Causes.{AllGoOn, GoesOn, IsAmbiguous, IsExhausted, IsFailed, LiesApart}
 use Rattle.ds_flight.specs.Counting.{counted}
+use Rattle.ds_flight.specs.Ends.{NoneEnds}
 use Rattle.ds_flight.specs.Flights.{Flight}
 use Rattle.ds_flight.specs.Flown.{Flown}
 use Rattle.ds_flight.specs.Goes.{Goes, WholeHolds, known_after}
 use Rattle.ds_flight.specs.Left.{failures}
-use Rattle.ds_flight.specs.Picks.{TookPicks}
+use Rattle.ds_flight.specs.Picks.{TookOneMore, TookPicks}
 use Rattle.ds_flight.specs.Ran.{AreKnown, Course, RefusesOnly}
 use Rattle.ds_mean.specs.InTurn.{AllInTurn, IsLeft, items_of}
 use Rattle.ds_mean.specs.Send.{CameWhole}
@@ -54,8 +55,9 @@ pub record BatchRan (q : Asking) (whole : Option Extent) (got : List Accepted) (
   pub goes : Goes None known hs
   -- where a span must lie in one range, each piece is a part
   pub parts : OfParts whole q hs
-  -- every refusal and loss is counted, and comes only where the wire's own count rose
+  -- every refusal and loss is counted, and comes only where the wire's own count rose; there were tries left before each step
   pub counts : b.counts ≡ counted a.counts hs
+  pub went_on : AllGoOn a.counts hs
   pub refused : a.wire.refused ≤ b.wire.refused
   pub lost : a.wire.lost ≤ b.wire.lost
   pub refuses : Each (RefusesOnly (Rose a.wire.refused b.wire.refused)) hs
@@ -77,8 +79,8 @@ abbrev pub BatchLeft : Asking → List Happening → Type 0
 BatchLeft q hs = IsLeft q.items (items_of (accepted hs))
 
 abbrev pub BatchEnds : Asking → Option Extent → List RangeDesc → Counts → List Happening → PartOutcome → Type 0
-BatchEnds q whole known c hs (Outcome.Done replies rest) = (failures hs ≡ []) × GoesOn c × CameWhole q hs replies
-BatchEnds q whole known c hs (Outcome.NotWhole desc) = (failures hs ≡ []) × GoesOn c × BatchApart q whole (known_after known hs) desc × BatchLeft q hs
+BatchEnds q whole known c hs (Outcome.Done replies rest) = (failures hs ≡ []) × NoneEnds hs × GoesOn c × CameWhole q hs replies
+BatchEnds q whole known c hs (Outcome.NotWhole desc) = (failures hs ≡ []) × NoneEnds hs × GoesOn c × BatchApart q whole (known_after known hs) desc × BatchLeft q hs
 BatchEnds q whole known c hs (Outcome.Failed f) = IsFailed c hs f × BatchLeft q hs
 BatchEnds q whole known c hs (Outcome.Ambiguous lost) = IsAmbiguous c hs lost × BatchLeft q hs
 BatchEnds q whole known c hs (Outcome.Exhausted refused lost) = IsExhausted c hs refused lost × BatchLeft q hs
@@ -121,10 +123,17 @@ abbrev pub PartsFlown : Head → Option Extent → List Part → Course → Cour
 PartsFlown head whole parts a b o =
     (q : Asking) (known : List RangeDesc) → ArePartsOf q head parts → AreKnown known a.entries → (hs : List Happening) × BatchEnded q whole known a b hs o
 
+-- what happened before memory was wanted: nothing ended a flight, tries are left, and each send took a pick, also one that never came
+pub record BatchBegun (q : Asking) (whole : Option Extent) (known : List RangeDesc) (a b : Course) (hs : List Happening) : Type 0 where
+  pub ran : BatchRan q whole [] known a b hs
+  pub picks : TookPicks a.wire.ahead b.wire.ahead hs ⊎ TookOneMore a.wire.ahead b.wire.ahead hs
+  pub unended : NoneEnds hs
+  pub goes_on : GoesOn b.counts
+
 -- memory was wanting
 abbrev pub PartsBegan : Head → Option Extent → List Part → Course → Course → Type 0
 PartsBegan head whole parts a b =
-    (q : Asking) (known : List RangeDesc) → ArePartsOf q head parts → AreKnown known a.entries → (hs : List Happening) × BatchRan q whole [] known a b hs
+    (q : Asking) (known : List RangeDesc) → ArePartsOf q head parts → AreKnown known a.entries → (hs : List Happening) × BatchBegun q whole known a b hs
 
 -- one part more was flown: its replies came behind the others, or it ended so
 abbrev pub NextFlown : Flight → Course → Course → List Reply → List Reply → Option PartOutcome → Type 0

@@ -1,6 +1,5 @@
-use Rattle.std.proofs.Common.{◌<◌, ap, inl, inr, arith, refl, ◌≡◌, ◌≤◌, None, rules, sym, ◌∙◌}
+use Rattle.std.proofs.Common.{◌<◌, ap, arith, ◌≡◌, ◌∙◌}
 use Rattle.ds_iter.proofs.RowSteps.{on_err}
-use Rattle.ds_flight.specs.Fills.{IsFilled}
 use Rattle.ds_flight.specs.Places.{waiting}
 use Rattle.ds_flight.specs.declared.fill.Filling.TheVariants.{NotWhole, Spent}
 use Rattle.ds_flight.proofs.Rests.{smaller, so-ended, so-first, so-more, sought-then}

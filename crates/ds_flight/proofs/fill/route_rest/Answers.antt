@@ -1,7 +1,6 @@
-use Rattle.std.proofs.Common.{inl, inr, ◌≡◌, ◌∷◌, true, false, rules}
+use Rattle.std.proofs.Common.{inl, inr, ◌≡◌, true, false, rules}
 use Rattle.ds_iter.proofs.RowSteps.{on_err}
 use Rattle.ds_flight.specs.Places.{lies_in_one}
-use Rattle.ds_flight.specs.declared.work.Task.TheVariants.{Rest}
 use Rattle.ds_flight.proofs.Filling.{again-counts, contains-seek, found-counts, found-sought, placed-cut, rest-again, rest-cut, rest-not-whole, rest-spent}
 use Rattle.ds_flight.proofs.Lessening.{again-lessens, cut-lessens}
 use Rattle.ds_flight.proofs.fill.route_rest.Goals as goal

@@ -1,4 +1,4 @@
-use Rattle.std.proofs.Common.{◌≡◌, ◌<◌, ◌≤◌, ◌^◌, ap, arith, ◌∙◌, subst, sym}
+use Rattle.std.proofs.Common.{◌≤◌, ap, arith, ◌∙◌, subst, sym}
 use Rattle.ds_iter.proofs.RowSteps.{on_err}
 use Rattle.ds_flight.specs.Fills.{FilledTo}
 use Rattle.ds_flight.specs.Flown.{flight}
@@ -18,13 +18,13 @@ pub fill-requires-clause-ready : goal.fill-requires-clause-ready
 fill-requires-clause-ready g c = aloft-ready (flight c.args.part.now c.args.head.now c.args.rule.now.whole) c.args.left _ _ _ _ _ _ c.flight.invariant.aloft
 
 pub returns-in_err-fill-clause-began : goal.returns-in_err-fill-clause-began
-returns-in_err-fill-clause-began g c = on_err _ _ (began-filled (flight c.args.part.now c.args.head.now c.args.rule.now.whole) c.args.left _ _ _ _ _ _ _ c.requires.whole c.flight.invariant.aloft c.in_err-fill.ensures.sought)
+returns-in_err-fill-clause-began g c = on_err _ _ (began-filled (flight c.args.part.now c.args.head.now c.args.rule.now.whole) c.args.left _ _ _ _ _ _ _ c.in_err-fill.ensures.tries c.requires.whole c.flight.invariant.aloft c.in_err-fill.ensures.sought)
 
 pub returns-in-NotWhole-clause-flown : goal.returns-in-NotWhole-clause-flown
 returns-in-NotWhole-clause-flown g c = filled-apart (flight c.args.part.now c.args.head.now c.args.rule.now.whole) c.args.left _ _ _ _ _ _ _ _ c.in_ok-fill.field-0 c.in-NotWhole.desc c.requires.whole c.flight.invariant.aloft c.in-NotWhole.is c.in_ok-fill.ensures.routed c.in_ok-fill.ensures.counts
 
 pub returns-in-Spent-clause-flown : goal.returns-in-Spent-clause-flown
-returns-in-Spent-clause-flown g c = filled-spent (flight c.args.part.now c.args.head.now c.args.rule.now.whole) c.args.left _ _ _ _ _ _ _ _ c.in_ok-fill.field-0 c.exhausted.result c.requires.whole c.flight.invariant.aloft c.in-Spent.is c.in_ok-fill.ensures.routed c.in_ok-fill.ensures.counts c.exhausted.ensures
+returns-in-Spent-clause-flown g c = filled-spent (flight c.args.part.now c.args.head.now c.args.rule.now.whole) c.args.left _ _ _ _ _ _ _ _ c.in_ok-fill.field-0 c.exhausted.result c.requires.goes_on c.requires.whole c.flight.invariant.aloft c.in-Spent.is c.in_ok-fill.ensures.routed c.in_ok-fill.ensures.counts c.exhausted.ensures
 
 pub send_one-requires-clause-few : goal.send_one-requires-clause-few
 send_one-requires-clause-few g c =
@@ -50,7 +50,7 @@ pub returns-clause-flown : goal.returns-clause-flown
 returns-clause-flown g c = short-if (flight c.args.part.now c.args.head.now c.args.rule.now.whole) c.args.left _ _ _ _ _ c.end_short.result c.flight.invariant.aloft c.flight.invariant.goes (sym c.is_used_up.ensures ∙ c.flight-test.false) c.end_short.ensures
 
 pub returns-clause-began : goal.returns-clause-began
-returns-clause-began g c = on_err _ _ (aloft-began (flight c.args.part.now c.args.head.now c.args.rule.now.whole) c.args.left _ _ _ _ _ _ c.flight.invariant.aloft)
+returns-clause-began g c = on_err _ _ (aloft-began (flight c.args.part.now c.args.head.now c.args.rule.now.whole) c.args.left _ _ _ _ _ _ c.flight.invariant.goes c.flight.invariant.aloft)
 
 pub returns-then-routed_count-eq0-clause-flown : goal.returns-then-routed_count-eq0-clause-flown
 returns-then-routed_count-eq0-clause-flown g c =
@@ -67,7 +67,7 @@ returns-in_err-send_one-clause-began g c =
     let filled = subst (λ m. FilledTo m c.flight.attempts c.fill.new.attempts c.flight.work.items c.fill.new.work.items c.in_ok-fill.field-0) c.most_waiting-most.ensures.most c.in_ok-fill.ensures.filled in
     let few = filled-few (most_of c.args.left) c.flight.attempts c.fill.new.attempts c.flight.work.items c.fill.new.work.items c.in_ok-fill.field-0 c.in-On.is filled c.flight.invariant.few in
     let aloft = aloft-filled f c.args.left _ _ _ _ _ _ _ c.in_ok-fill.field-0 c.requires.whole c.flight.invariant.aloft c.in-On.is c.in_ok-fill.ensures.routed c.in_ok-fill.ensures.queue few in
-    on_err _ _ (began-sent f c.args.left _ _ _ _ _ _ _ aloft c.in_err-send_one.ensures.ran)
+    on_err _ _ (began-sent f c.args.left _ _ _ _ _ _ _ c.in_err-send_one.ensures.tries aloft (sym c.is_used_up.ensures ∙ c.flight-test.true) c.in_err-send_one.ensures.ran c.send_one.ensures.picked)
 
 pub flight-preserved : goal.flight-preserved
 flight-preserved g c =
@@ -76,10 +76,11 @@ flight-preserved g c =
     let few : waiting c.fill.new.work.items ≤ most_of c.args.left = filled-few (most_of c.args.left) c.flight.attempts c.fill.new.attempts c.flight.work.items c.fill.new.work.items c.in_ok-fill.field-0 c.in-On.is filled c.flight.invariant.few in
     let full = filled-full (most_of c.args.left) c.flight.attempts c.fill.new.attempts c.flight.work.items c.fill.new.work.items c.in_ok-fill.field-0 c.in-On.is filled in
     let aloft = aloft-filled f c.args.left _ _ _ _ _ _ _ c.in_ok-fill.field-0 c.requires.whole c.flight.invariant.aloft c.in-On.is c.in_ok-fill.ensures.routed c.in_ok-fill.ensures.queue few in
+    let room = sym c.is_used_up.ensures ∙ c.flight-test.true in
     let kept : waiting c.send_one.new.work.items ≤ waiting c.fill.new.work.items = c.in_ok-send_one.ensures.few in
     record {
-      aloft = aloft-sent f c.args.left _ _ _ _ _ _ _ _ _ _ c.in_ok-send_one.field-0 aloft c.in-On-2.is c.in_ok-send_one.ensures.sent full few;
-      goes = sent-goes f c.args.left _ _ _ _ _ _ _ _ _ _ c.in_ok-send_one.field-0 aloft c.in-On-2.is c.in_ok-send_one.ensures.sent;
+      aloft = aloft-sent f c.args.left _ _ _ _ _ _ _ _ _ _ c.in_ok-send_one.field-0 aloft room c.in-On-2.is c.in_ok-send_one.ensures.sent full few;
+      goes = sent-goes f c.args.left _ _ _ _ _ _ _ _ _ _ c.in_ok-send_one.field-0 aloft room c.in-On-2.is c.in_ok-send_one.ensures.sent;
       few = omega (arith, few, kept);
     }
 
@@ -89,4 +90,4 @@ returns-in-Ended-clause-flown g c =
     let filled = subst (λ m. FilledTo m c.flight.attempts c.fill.new.attempts c.flight.work.items c.fill.new.work.items c.in_ok-fill.field-0) c.most_waiting-most.ensures.most c.in_ok-fill.ensures.filled in
     let few = filled-few (most_of c.args.left) c.flight.attempts c.fill.new.attempts c.flight.work.items c.fill.new.work.items c.in_ok-fill.field-0 c.in-On.is filled c.flight.invariant.few in
     let aloft = aloft-filled f c.args.left _ _ _ _ _ _ _ c.in_ok-fill.field-0 c.requires.whole c.flight.invariant.aloft c.in-On.is c.in_ok-fill.ensures.routed c.in_ok-fill.ensures.queue few in
-    sent-ended f c.args.left _ _ _ _ _ _ _ _ _ _ c.in_ok-send_one.field-0 c.in-Ended.outcome aloft c.in-Ended.is c.in_ok-send_one.ensures.sent
+    sent-ended f c.args.left _ _ _ _ _ _ _ _ _ _ c.in_ok-send_one.field-0 c.in-Ended.outcome aloft (sym c.is_used_up.ensures ∙ c.flight-test.true) c.in-Ended.is c.in_ok-send_one.ensures.sent

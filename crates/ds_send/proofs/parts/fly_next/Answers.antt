@@ -1,13 +1,13 @@
 use Rattle.ds_iter.proofs.RowSteps.{on_err}
 use Rattle.ds_retry.specs.declared.outcome.PartOutcome.TheVariants as Outcome
-use Rattle.ds_send.proofs.Flying.{began-as, flown-as, flown-began, next-done}
+use Rattle.ds_send.proofs.Flying.{began-as, done-began, flown-as, next-done}
 use Rattle.ds_send.proofs.parts.fly_next.Goals as goal
 
 pub returns-in_err-more-clause-began : goal.returns-in_err-more-clause-began
 returns-in_err-more-clause-began g c = on_err _ _ (began-as _ c.new.result _ _ c.new.ensures c.in_err-more.ensures.began)
 
 pub returns-in_err-append-in-Done-clause-began : goal.returns-in_err-append-in-Done-clause-began
-returns-in_err-append-in-Done-clause-began g c = on_err _ _ (began-as _ c.new.result _ _ c.new.ensures (flown-began _ c.new.result _ _ c.in_ok-more.field-0 c.in_ok-more.ensures.flown))
+returns-in_err-append-in-Done-clause-began g c = on_err _ _ (began-as _ c.new.result _ _ c.new.ensures (done-began _ c.new.result _ _ c.in-Done.more c.in-Done.left c.in_ok-more.field-0 c.in-Done.is c.in_ok-more.ensures.flown))
 
 pub returns-in_ok-append-in-Done-clause-flown : goal.returns-in_ok-append-in-Done-clause-flown
 returns-in_ok-append-in-Done-clause-flown g c =
