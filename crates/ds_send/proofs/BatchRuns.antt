@@ -42,7 +42,8 @@ use Rattle.ds_flight.proofs.Accepting.{all-answer, done-gathered}
 use Rattle.ds_flight.proofs.Joins.{counted-append, failures-append, go-on-append, goes-append, known-append, last-append, loses-more, missed-append, refuses-more, rose-left, rose-right, runs-append, took-then, unended-append}
 use Rattle.ds_mean.specs.InTurn.{AllInTurn, AreAll, IsLeft, items_of, places_at}
 use Rattle.ds_mean.proofs.Covering.{blocks_left, parts_left}
-use Rattle.ds_send.specs.Batched.{BatchBegun, BatchEnded, BatchLeft, BatchRan, IsNotDone, IsOfPart, OfParts}
+use Rattle.ds_rule.specs.Whole.{IsOfPart}
+use Rattle.ds_send.specs.Batched.{BatchBegun, BatchEnded, BatchLeft, BatchRan, IsNotDone, OfParts}
 use Rattle.ds_send.proofs.CoversInTurn.{all-match, covered-places, covers-in-turn, match-items}
 use Rattle.ds_send.proofs.PartSteps.{IsPartOf, part-of-batch, part-rises, rises-left}
 use Rattle.ds_send.proofs.PartsGathered.{PartGives, both-give, none-give}

@@ -21,7 +21,8 @@ use Rattle.ds_flight.specs.Counting.{counted, counted_step}
 use Rattle.ds_flight.specs.Ran.{Course}
 use Rattle.ds_mean.specs.Send.{CameToFail, DidSend, IsOfAll, ShowsWhy, WritesAlone}
 use Rattle.ds_mean.specs.Told.{IsTold}
-use Rattle.ds_send.specs.Batched.{BatchEnded, BatchEnds, BatchLeft, IsOfPart, OfParts}
+use Rattle.ds_rule.specs.Whole.{IsOfPart}
+use Rattle.ds_send.specs.Batched.{BatchEnded, BatchEnds, BatchLeft, OfParts}
 use Rattle.ds_send.specs.Settled.{exhausted_as, failed_as, settled_as}
 
 -- ---- counts

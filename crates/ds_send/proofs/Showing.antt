@@ -1,5 +1,5 @@
 -- Why a batch was answered so, as its steps show it.
-use Rattle.std.proofs.Common.{◌≡◌, ℕ, zero, suc, ◌+◌, ◌<◌, List, [], ◌∷◌, ◌++◌, inl, inr, refl, sym, ap, ◌∙◌, subst, arith}
+use Rattle.std.proofs.Common.{◌≡◌, Bool, true, false, ℕ, zero, suc, ◌+◌, ◌<◌, List, [], ◌∷◌, ◌++◌, inl, inr, refl, sym, ap, ◌∙◌, subst, arith}
 use Rattle.std.proofs.lemmas.List.{append_cancel_left}
 use Rattle.ds_cache.specs.Entries.{Entry}
 use Rattle.ds_desc.specs.declared.desc.RangeDesc.{RangeDesc}
@@ -16,14 +16,16 @@ use Rattle.ds_rule.specs.Asking.{Asking}
 use Rattle.ds_rule.specs.Cause.{UsedUp, lost_in, refused_in}
 use Rattle.ds_rule.specs.Clauses.{Stands}
 use Rattle.ds_rule.specs.Journal.{Happening, Moved, Did}
-use Rattle.ds_rule.specs.Whole.{whole_of}
+use Rattle.ds_rule.specs.Law.{IsGiven}
+use Rattle.ds_rule.specs.Whole.{OfPartsIf, must_be_whole, span_if, whole_of}
 use Rattle.ds_flight.specs.Causes.{GoesOn, IsAmbiguous, IsExhausted, IsFailed}
 use Rattle.ds_flight.specs.Counting.{counted, counted_step}
 use Rattle.ds_flight.specs.Goes.{known_after}
 use Rattle.ds_flight.specs.Ran.{AreKnown}
+use Rattle.ds_flight.specs.Searches.{course}
 use Rattle.ds_flight.proofs.Caching.{entries-first}
-use Rattle.ds_send.specs.Batched.{BatchEnds, BatchLeft}
-use Rattle.ds_send.specs.Calls.{Broke, Flew, FlewOrBroke, IsCaused, Learned, descs_in}
+use Rattle.ds_send.specs.Batched.{BatchEnds, BatchLeft, BatchRan, OfParts}
+use Rattle.ds_send.specs.Calls.{Flew, FlewOrBroke, IsShown, Learned, Shows, descs_in}
 use Rattle.ds_send.specs.Causes.{CauseOf, HasFailed, IsInDoubt, RanOut, missed_in, risked_in}
 use Rattle.ds_send.specs.Settled.{exhausted_as, failed_as, settled_as}
 use Rattle.ds_send.proofs.DidSends.{counts-budget, counts-lost, counts-refused}
@@ -103,8 +105,8 @@ exhausted-cause budget zero q known hs refused lost at r = (sym at, r)
 exhausted-cause budget (suc n) q known hs refused lost at r = record { lost_is = at; why = inr (inr (omega arith, as-counted budget q hs refused lost r)) }
 
 shows : (budget : ℕ) (q : Asking) (known : List RangeDesc) (c : Counts) (hs : List Happening) (o : PartOutcome) → Tally budget c hs → BatchEnds q (whole_of q) known c hs o → CauseOf budget q known hs (settled_as c o)
-shows budget q known c hs (Ends.Done replies rest) t e = (record { none_failed = e.0; within = within budget c hs t e.1 }, e.2)
-shows budget q known c hs (Ends.NotWhole desc) t e = record { well = record { none_failed = e.0; within = within budget c hs t e.1 }; apart = e.2; left = e.3 }
+shows budget q known c hs (Ends.Done replies rest) t e = (record { none_failed = e.0; within = within budget c hs t e.2 }, e.3)
+shows budget q known c hs (Ends.NotWhole desc) t e = record { well = record { none_failed = e.0; within = within budget c hs t e.2 }; apart = e.3; left = e.4 }
 shows budget q known c hs (Ends.Failed f) t e = failed-cause budget q known c hs f t e.0 e.1
 shows budget q known c hs (Ends.Ambiguous lost) t e = record {
   lost_is = e.0.lost_is ∙ t.risked_is;
@@ -122,49 +124,66 @@ shows budget q known c hs (Ends.Exhausted refused lost) t e = exhausted-cause bu
 same-added : (a b : Stands) (xs ys : List Happening) → b.past ≡ a.past ++ xs → b.past ≡ a.past ++ ys → xs ≡ ys
 same-added a b xs ys x y = append_cancel_left a.past xs ys (sym x ∙ y)
 
-caused : (budget : ℕ) (q : Asking) (a b : Stands) (es fs : List Entry) (o : Outcome) → Flew budget q a b es fs o → IsCaused budget q a b es o
-caused budget q a b es fs o f hs grown =
+parts-by : (t : Bool) (q : Asking) (hs : List Happening) → OfParts (span_if t q.items) q hs → OfPartsIf t q hs
+parts-by true q hs h = h
+parts-by false q hs h = tt
+
+shown : (budget : ℕ) (q : Asking) (a b : Stands) (es fs : List Entry) (o : Outcome) → Flew budget q a b es fs o → IsShown budget q a b es o
+shown budget q a b es fs o f hs grown =
     let so = f.ended (descs_in es) (entries-first es) in
-    subst (CauseOf budget q (descs_in es) hs) (sym f.answer)
-    (subst (λ z. CauseOf budget q (descs_in es) z (settled_as f.counts f.came)) (same-added a b so.0 hs so.1.ran.grown grown)
-    (shows budget q (descs_in es) f.counts so.0 f.came (tally budget f.counts so.0 so.1.ran.counts) so.1.ends))
+    subst (λ z. Shows budget q a b es z o) (same-added a b so.0 hs so.1.ran.grown grown)
+    (record {
+      cause =
+          subst (CauseOf budget q (descs_in es) so.0) (sym f.answer)
+          (shows budget q (descs_in es) f.counts so.0 f.came (tally budget f.counts so.0 so.1.ran.counts) so.1.ends);
+      went_on = so.1.ran.went_on;
+      picks = so.1.picks;
+      goes = so.1.ran.goes;
+      parts = parts-by (must_be_whole q) q so.0 so.1.ran.parts;
+      refuses = so.1.ran.refuses;
+      loses = so.1.ran.loses;
+    })
 
-pub cause-by : (budget : ℕ) (q : Asking) (a b : Stands) (es fs : List Entry) (o : Outcome) → FlewOrBroke budget q a b es fs o → IsCaused budget q a b es o
-cause-by budget q a b es fs (Outcome.Ok replies) f = caused budget q a b es fs (Outcome.Ok replies) f
-cause-by budget q a b es fs (Outcome.Illegal i) f = caused budget q a b es fs (Outcome.Illegal i) f
-cause-by budget q a b es fs (Outcome.MustRollBack since) f = caused budget q a b es fs (Outcome.MustRollBack since) f
-cause-by budget q a b es fs (Outcome.TxnOver status) f = caused budget q a b es fs (Outcome.TxnOver status) f
-cause-by budget q a b es fs (Outcome.OpRequiresTxn desc) f = caused budget q a b es fs (Outcome.OpRequiresTxn desc) f
-cause-by budget q a b es fs (Outcome.NotOnePhase desc) f = caused budget q a b es fs (Outcome.NotOnePhase desc) f
-cause-by budget q a b es fs (Outcome.ConditionFailed i v) f = caused budget q a b es fs (Outcome.ConditionFailed i v) f
-cause-by budget q a b es fs (Outcome.WriteTooOld i k s) f = caused budget q a b es fs (Outcome.WriteTooOld i k s) f
-cause-by budget q a b es fs (Outcome.NotInteger i) f = caused budget q a b es fs (Outcome.NotInteger i) f
-cause-by budget q a b es fs (Outcome.Overflow i) f = caused budget q a b es fs (Outcome.Overflow i) f
-cause-by budget q a b es fs Outcome.TxnAborted f = caused budget q a b es fs Outcome.TxnAborted f
-cause-by budget q a b es fs (Outcome.Ambiguous lost) f = caused budget q a b es fs (Outcome.Ambiguous lost) f
-cause-by budget q a b es fs (Outcome.RetryExhausted refused lost) f = caused budget q a b es fs (Outcome.RetryExhausted refused lost) f
-cause-by budget q a b es fs Outcome.OutOfMemory f = λ hs grown. tt
+pub shown-by : (budget : ℕ) (q : Asking) (a b : Stands) (es fs : List Entry) (o : Outcome) → IsGiven o → FlewOrBroke budget q a b es fs o → IsShown budget q a b es o
+shown-by budget q a b es fs (Outcome.Ok replies) given f = shown budget q a b es fs (Outcome.Ok replies) f
+shown-by budget q a b es fs (Outcome.Illegal i) given f = shown budget q a b es fs (Outcome.Illegal i) f
+shown-by budget q a b es fs (Outcome.MustRollBack since) given f = shown budget q a b es fs (Outcome.MustRollBack since) f
+shown-by budget q a b es fs (Outcome.TxnOver status) given f = shown budget q a b es fs (Outcome.TxnOver status) f
+shown-by budget q a b es fs (Outcome.OpRequiresTxn desc) given f = shown budget q a b es fs (Outcome.OpRequiresTxn desc) f
+shown-by budget q a b es fs (Outcome.NotOnePhase desc) given f = shown budget q a b es fs (Outcome.NotOnePhase desc) f
+shown-by budget q a b es fs (Outcome.ConditionFailed i v) given f = shown budget q a b es fs (Outcome.ConditionFailed i v) f
+shown-by budget q a b es fs (Outcome.WriteTooOld i k s) given f = shown budget q a b es fs (Outcome.WriteTooOld i k s) f
+shown-by budget q a b es fs (Outcome.NotInteger i) given f = shown budget q a b es fs (Outcome.NotInteger i) f
+shown-by budget q a b es fs (Outcome.Overflow i) given f = shown budget q a b es fs (Outcome.Overflow i) f
+shown-by budget q a b es fs Outcome.TxnAborted given f = shown budget q a b es fs Outcome.TxnAborted f
+shown-by budget q a b es fs (Outcome.Ambiguous lost) given f = shown budget q a b es fs (Outcome.Ambiguous lost) f
+shown-by budget q a b es fs (Outcome.RetryExhausted refused lost) given f = shown budget q a b es fs (Outcome.RetryExhausted refused lost) f
+shown-by budget q a b es fs Outcome.OutOfMemory given f = absurd given
 
-learned : (budget : ℕ) (q : Asking) (a b : Stands) (es fs : List Entry) → Broke budget q a b es fs → Learned a b es fs
-learned budget q a b es fs f hs grown =
-    let so = f.ran (descs_in es) (entries-first es) in
+-- what ran between two states, whatever is known beside the cache's descriptors
+abbrev RanSo : Asking → Stands → Stands → List Entry → List Entry → Counts → Counts → Type 0
+RanSo q a b es fs c d = (known : List RangeDesc) → AreKnown known es → (hs : List Happening) × BatchRan q (whole_of q) [] known (course a es c) (course b fs d) hs
+
+learned : (q : Asking) (a b : Stands) (es fs : List Entry) (c d : Counts) → RanSo q a b es fs c d → Learned a b es fs
+learned q a b es fs c d ran hs grown =
+    let so = ran (descs_in es) (entries-first es) in
     subst (λ z. AreKnown (known_after (descs_in es) z) fs) (same-added a b so.0 hs so.1.grown grown) (so.1.entries (entries-first es))
 
-begun : (budget : ℕ) (q : Asking) (a b : Stands) (es fs : List Entry) (o : Outcome) → Flew budget q a b es fs o → Broke budget q a b es fs
-begun budget q a b es fs o f = record { counts = f.counts; ran = λ known all. let so = f.ended known all in (so.0, so.1.ran) }
+flown : (budget : ℕ) (q : Asking) (a b : Stands) (es fs : List Entry) (o : Outcome) → Flew budget q a b es fs o → Learned a b es fs
+flown budget q a b es fs o f = learned q a b es fs (first_counts budget) f.counts (λ known all. let so = f.ended known all in (so.0, so.1.ran))
 
 pub learned-by : (budget : ℕ) (q : Asking) (a b : Stands) (es fs : List Entry) (o : Outcome) → FlewOrBroke budget q a b es fs o → Learned a b es fs
-learned-by budget q a b es fs (Outcome.Ok replies) f = learned budget q a b es fs (begun budget q a b es fs (Outcome.Ok replies) f)
-learned-by budget q a b es fs (Outcome.Illegal i) f = learned budget q a b es fs (begun budget q a b es fs (Outcome.Illegal i) f)
-learned-by budget q a b es fs (Outcome.MustRollBack since) f = learned budget q a b es fs (begun budget q a b es fs (Outcome.MustRollBack since) f)
-learned-by budget q a b es fs (Outcome.TxnOver status) f = learned budget q a b es fs (begun budget q a b es fs (Outcome.TxnOver status) f)
-learned-by budget q a b es fs (Outcome.OpRequiresTxn desc) f = learned budget q a b es fs (begun budget q a b es fs (Outcome.OpRequiresTxn desc) f)
-learned-by budget q a b es fs (Outcome.NotOnePhase desc) f = learned budget q a b es fs (begun budget q a b es fs (Outcome.NotOnePhase desc) f)
-learned-by budget q a b es fs (Outcome.ConditionFailed i v) f = learned budget q a b es fs (begun budget q a b es fs (Outcome.ConditionFailed i v) f)
-learned-by budget q a b es fs (Outcome.WriteTooOld i k s) f = learned budget q a b es fs (begun budget q a b es fs (Outcome.WriteTooOld i k s) f)
-learned-by budget q a b es fs (Outcome.NotInteger i) f = learned budget q a b es fs (begun budget q a b es fs (Outcome.NotInteger i) f)
-learned-by budget q a b es fs (Outcome.Overflow i) f = learned budget q a b es fs (begun budget q a b es fs (Outcome.Overflow i) f)
-learned-by budget q a b es fs Outcome.TxnAborted f = learned budget q a b es fs (begun budget q a b es fs Outcome.TxnAborted f)
-learned-by budget q a b es fs (Outcome.Ambiguous lost) f = learned budget q a b es fs (begun budget q a b es fs (Outcome.Ambiguous lost) f)
-learned-by budget q a b es fs (Outcome.RetryExhausted refused lost) f = learned budget q a b es fs (begun budget q a b es fs (Outcome.RetryExhausted refused lost) f)
-learned-by budget q a b es fs Outcome.OutOfMemory f = learned budget q a b es fs f
+learned-by budget q a b es fs (Outcome.Ok replies) f = flown budget q a b es fs (Outcome.Ok replies) f
+learned-by budget q a b es fs (Outcome.Illegal i) f = flown budget q a b es fs (Outcome.Illegal i) f
+learned-by budget q a b es fs (Outcome.MustRollBack since) f = flown budget q a b es fs (Outcome.MustRollBack since) f
+learned-by budget q a b es fs (Outcome.TxnOver status) f = flown budget q a b es fs (Outcome.TxnOver status) f
+learned-by budget q a b es fs (Outcome.OpRequiresTxn desc) f = flown budget q a b es fs (Outcome.OpRequiresTxn desc) f
+learned-by budget q a b es fs (Outcome.NotOnePhase desc) f = flown budget q a b es fs (Outcome.NotOnePhase desc) f
+learned-by budget q a b es fs (Outcome.ConditionFailed i v) f = flown budget q a b es fs (Outcome.ConditionFailed i v) f
+learned-by budget q a b es fs (Outcome.WriteTooOld i k s) f = flown budget q a b es fs (Outcome.WriteTooOld i k s) f
+learned-by budget q a b es fs (Outcome.NotInteger i) f = flown budget q a b es fs (Outcome.NotInteger i) f
+learned-by budget q a b es fs (Outcome.Overflow i) f = flown budget q a b es fs (Outcome.Overflow i) f
+learned-by budget q a b es fs Outcome.TxnAborted f = flown budget q a b es fs Outcome.TxnAborted f
+learned-by budget q a b es fs (Outcome.Ambiguous lost) f = flown budget q a b es fs (Outcome.Ambiguous lost) f
+learned-by budget q a b es fs (Outcome.RetryExhausted refused lost) f = flown budget q a b es fs (Outcome.RetryExhausted refused lost) f
+learned-by budget q a b es fs Outcome.OutOfMemory f = learned q a b es fs (first_counts budget) f.counts (λ known all. let so = f.begun known all in (so.0, so.1.ran))

@@ -1,5 +1,5 @@
 -- What the flights of a batch's parts did, one after another.
-use Rattle.std.specs.Prelude.{◌≡◌, ◌⊎◌, ℕ, ◌<◌, ◌≤◌, true, false, List, [], ◌++◌, map, length, Option, Some, None}
+use Rattle.std.specs.Prelude.{◌≡◌, ◌⊎◌, ℕ, ◌<◌, ◌≤◌, true, false, List, [], ◌++◌, length, Option, Some, None}
 use Rattle.std.specs.List.{list_any}
 use Rattle.ds_base.specs.Counts.{Rose}
 use Rattle.ds_base.specs.Order.{Extent}
@@ -14,11 +14,11 @@ use Rattle.ds_retry.specs.Counted.{Counts}
 use Rattle.ds_retry.specs.declared.outcome.PartOutcome.{PartOutcome}
 use Rattle.ds_retry.specs.declared.outcome.PartOutcome.TheVariants as Outcome
 use Rattle.ds_rule.specs.Asking.{Asking}
-use Rattle.ds_rule.specs.declared.journal.JournalStep.TheVariants.{Look, Send}
-use Rattle.ds_rule.specs.Journal.{Accepted, Happening, Moved, Did, Runs, accepted}
+use Rattle.ds_rule.specs.Journal.{Accepted, Happening, Runs, accepted}
 use Rattle.ds_rule.specs.Path.{IsHigh, LosesOnly}
 use Rattle.ds_rule.specs.Pieces.{Each, IsOneOf, parts_apart}
 use Rattle.ds_rule.specs.Sending.{AllOf}
+use Rattle.ds_rule.specs.Whole.{IsOfPart}
 use Rattle.ds_flight.specs.Causes.{AllGoOn, GoesOn, IsAmbiguous, IsExhausted, IsFailed, LiesApart}
 use Rattle.ds_flight.specs.Counting.{counted}
 use Rattle.ds_flight.specs.Ends.{NoneEnds}
@@ -31,12 +31,7 @@ use Rattle.ds_flight.specs.Ran.{AreKnown, Course, RefusesOnly}
 use Rattle.ds_mean.specs.InTurn.{AllInTurn, IsLeft, items_of}
 use Rattle.ds_mean.specs.Send.{CameWhole}
 
--- the piece of a send is a whole part of the batch
-abbrev pub IsOfPart : Asking → Happening → Type 0
-IsOfPart q (Moved e) = Unit {0}
-IsOfPart q (Did (Look k d l)) = Unit {0}
-IsOfPart q (Did (Send n p a)) = IsOneOf p.items (map (λ t. t.items) (parts_apart q.items))
-
+-- where some span must lie in one range, the piece of each send is a whole part of the batch
 abbrev pub OfParts : Option Extent → Asking → List Happening → Type 0
 OfParts None q hs = Unit {0}
 OfParts (Some whole) q hs = Each (IsOfPart q) hs

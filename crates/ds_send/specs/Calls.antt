@@ -1,5 +1,6 @@
 -- What one call of a sender over ranges that may move did.
-use Rattle.std.specs.Prelude.{◌≡◌, ℕ, List, [], ◌++◌, map, Option, Some, None}
+use Rattle.std.specs.Prelude.{◌≡◌, ℕ, List, ◌++◌, map, Option, Some, None}
+use Rattle.ds_base.specs.Counts.{Rose}
 use Rattle.ds_desc.specs.declared.desc.RangeDesc.{RangeDesc}
 use Rattle.ds_kind.specs.declared.illegal.Illegal.{Illegal}
 use Rattle.ds_cache.specs.Entries.{Entry}
@@ -9,11 +10,15 @@ use Rattle.ds_rule.specs.declared.answer.Outcome.{Outcome}
 use Rattle.ds_rule.specs.Asking.{Asking}
 use Rattle.ds_rule.specs.Clauses.{Stands}
 use Rattle.ds_rule.specs.Journal.{Happening}
-use Rattle.ds_rule.specs.Whole.{whole_of}
-use Rattle.ds_flight.specs.Goes.{known_after}
-use Rattle.ds_flight.specs.Ran.{AreKnown}
+use Rattle.ds_rule.specs.Path.{LosesOnly}
+use Rattle.ds_rule.specs.Pieces.{Each}
+use Rattle.ds_rule.specs.Whole.{OfParts, whole_of}
+use Rattle.ds_flight.specs.Causes.{AllGoOn}
+use Rattle.ds_flight.specs.Goes.{Goes, known_after}
+use Rattle.ds_flight.specs.Picks.{TookPicks}
+use Rattle.ds_flight.specs.Ran.{AreKnown, RefusesOnly}
 use Rattle.ds_flight.specs.Searches.{course}
-use Rattle.ds_send.specs.Batched.{BatchEnded, BatchRan}
+use Rattle.ds_send.specs.Batched.{BatchBegun, BatchEnded}
 use Rattle.ds_send.specs.Causes.{CauseOf}
 use Rattle.ds_send.specs.Settled.{settled_as}
 
@@ -43,9 +48,9 @@ pub record Flew (budget : ℕ) (q : Asking) (a b : Stands) (es fs : List Entry) 
 -- memory was wanting on the way
 pub record Broke (budget : ℕ) (q : Asking) (a b : Stands) (es fs : List Entry) : Type 0 where
   pub counts : Counts
-  pub ran :
+  pub begun :
       (known : List RangeDesc) → AreKnown known es
-      → (hs : List Happening) × BatchRan q (whole_of q) [] known (course a es (first_counts budget)) (course b fs counts) hs
+      → (hs : List Happening) × BatchBegun q (whole_of q) known (course a es (first_counts budget)) (course b fs counts) hs
 
 -- what was done, by the answer
 abbrev pub FlewOrBroke : ℕ → Asking → Stands → Stands → List Entry → List Entry → Outcome → Type 0
@@ -57,9 +62,21 @@ FlewOrBroke budget q a b es fs o = Flew budget q a b es fs o
 abbrev pub descs_in : List Entry → List RangeDesc
 descs_in es = map (λ e. e.1.desc) es
 
--- what the wire added shows why it was answered so
-abbrev pub IsCaused : ℕ → Asking → Stands → Stands → List Entry → Outcome → Type 0
-IsCaused budget q a b es o = (hs : List Happening) → b.past ≡ a.past ++ hs → CauseOf budget q (descs_in es) hs o
+-- what happened shows why it was answered so. There were tries left before each step, and each send took a pick and went where
+-- the cache, a lookup or a mismatch said; what must lie in one range went part by part; a step was refused or lost only
+-- where the wire's own count rose
+pub record Shows (budget : ℕ) (q : Asking) (a b : Stands) (es : List Entry) (hs : List Happening) (o : Outcome) : Type 0 where
+  pub cause : CauseOf budget q (descs_in es) hs o
+  pub went_on : AllGoOn (first_counts budget) hs
+  pub picks : TookPicks a.ahead b.ahead hs
+  pub goes : Goes None (descs_in es) hs
+  pub parts : OfParts q hs
+  pub refuses : Each (RefusesOnly (Rose a.refused b.refused)) hs
+  pub loses : Each (LosesOnly (Rose a.lost b.lost)) hs
+
+-- so does what the wire added
+abbrev pub IsShown : ℕ → Asking → Stands → Stands → List Entry → Outcome → Type 0
+IsShown budget q a b es o = (hs : List Happening) → b.past ≡ a.past ++ hs → Shows budget q a b es hs o
 
 -- each descriptor of the cache stood there before, or what the wire added told it
 abbrev pub Learned : Stands → Stands → List Entry → List Entry → Type 0

@@ -8,7 +8,7 @@ ghost use Rattle.ds_rule.specs.Asking.{Asking, asking};
 ghost use Rattle.ds_rule.specs.Law.{IsGiven};
 ghost use Rattle.ds_rule.specs.Pieces.{parts_apart};
 ghost use Rattle.ds_send.specs.Asked.{asker_in, last_in};
-ghost use Rattle.ds_send.specs.Calls.{Broke, Flew, FlewOrBroke, IsCaused, Learned, StaysIf, WhereAsked};
+ghost use Rattle.ds_send.specs.Calls.{Broke, Flew, FlewOrBroke, IsShown, Learned, StaysIf, WhereAsked};
 ghost use Rattle.ds_send.specs.Forms.{can_send};
 ghost use Rattle.ds_send.specs.Sent.{IsOpenFor, Ruled};
 
@@ -145,7 +145,7 @@ impl Sender {
         ensures stays { StaysIf (first_illegal batch.now) self.old self.new }
         ensures sent { WhereAsked (first_illegal batch.now) (asking (asker_in txn.old) batch.now) (λ q. FlewOrBroke self.old.budget q (W.state wire.old) (W.state wire.new) self.old.entries self.new.entries result) }
         ensures did { IsGiven result → WhereAsked (first_illegal batch.now) (asking (asker_in txn.old) batch.now) (λ q. DidSend self.old.budget q (W.state wire.old) (W.state wire.new) result) }
-        ensures cause { WhereAsked (first_illegal batch.now) (asking (asker_in txn.old) batch.now) (λ q. IsCaused self.old.budget q (W.state wire.old) (W.state wire.new) self.old.entries result) }
+        ensures shown { IsGiven result → WhereAsked (first_illegal batch.now) (asking (asker_in txn.old) batch.now) (λ q. IsShown self.old.budget q (W.state wire.old) (W.state wire.new) self.old.entries result) }
         ensures learned { WhereAsked (first_illegal batch.now) (asking (asker_in txn.old) batch.now) (λ q. Learned (W.state wire.old) (W.state wire.new) self.old.entries self.new.entries) }
         ensures kept { self.new.budget ≡ self.old.budget }
         ensures same_txn { txn.new ≡ txn.old }

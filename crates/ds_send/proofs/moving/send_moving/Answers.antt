@@ -11,7 +11,7 @@ fly_parts-requires-clause-flyable g c =
     (c.in_ok-rule.ensures ∙ ap (λ b. span_if b c.args.asked.now.items) c.must_be_whole.ensures)
 
 pub returns-in_err-rule-clause-broke : goal.returns-in_err-rule-clause-broke
-returns-in_err-rule-clause-broke g c = on_err _ _ (broke-none c.args.budget c.args.asked.now (g.W.Wire.state c.args.wire.now) c.args.cache.now.entries)
+returns-in_err-rule-clause-broke g c = on_err _ _ (broke-none c.args.budget c.args.asked.now (g.W.Wire.state c.args.wire.now) c.args.cache.now.entries c.requires.some_tries)
 
 pub returns-in_err-outcome-clause-broke : goal.returns-in_err-outcome-clause-broke
 returns-in_err-outcome-clause-broke g c =

@@ -14,14 +14,14 @@ pub returns-in_err-asked-clause-broke : goal.returns-in_err-asked-clause-broke
 returns-in_err-asked-clause-broke g c =
     let a = g.W.Wire.state c.args.wire.now in
     let es = c.args.cache.now.entries in
-    let broke : (q : Asking) → asking (asker_in c.args.txn) c.args.legal.now ≡ Some q → Broke c.args.budget q a a es es = λ q asks. broke-none c.args.budget q a es in
+    let broke : (q : Asking) → asking (asker_in c.args.txn) c.args.legal.now ≡ Some q → Broke c.args.budget q a a es es = λ q asks. broke-none c.args.budget q a es c.requires.some_tries in
     on_err _ _ broke
 
 pub returns-in_err-parts-clause-broke : goal.returns-in_err-parts-clause-broke
 returns-in_err-parts-clause-broke g c =
     let a = g.W.Wire.state c.args.wire.now in
     let es = c.args.cache.now.entries in
-    let broke : (q : Asking) → asking (asker_in c.args.txn) c.args.legal.now ≡ Some q → Broke c.args.budget q a a es es = λ q asks. broke-none c.args.budget q a es in
+    let broke : (q : Asking) → asking (asker_in c.args.txn) c.args.legal.now ≡ Some q → Broke c.args.budget q a a es es = λ q asks. broke-none c.args.budget q a es c.requires.some_tries in
     on_err _ _ broke
 
 pub send_moving-requires-clause-movable : goal.send_moving-requires-clause-movable
