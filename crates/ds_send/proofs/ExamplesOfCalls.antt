@@ -66,7 +66,7 @@ a_put_is_in_doubt_by_its_loss = record {
   why = inl (record {
     none_failed = refl;
     within = omega arith;
-    at_risk = record { piece = put_piece; risky = refl; alone = refl; last = record { before = []; node = 1; last = refl } };
+    at_risk = record { piece = put_piece; risky = refl; alone = refl; last = record { before = []; node = 1; last = refl; unended = tt } };
     left = (key_a, 0, [], refl);
   });
 }
