@@ -1,13 +1,12 @@
 #!/usr/bin/env python3
 """Replays random scripts with a program and compares its answers with those of a plain store.
 
-    compare.py [--moves] [--count N] [--seed S] PROGRAM WORD..
-    compare.py [--moves] --script FILE PROGRAM WORD..
+    compare.py [--count N] [--seed S] PROGRAM WORD..
+    compare.py --script FILE PROGRAM WORD..
 
 Script number i is made from the seed S + i alone, so `--count 1 --seed THAT` makes it again; with
---script it is the file's, whose forms must be among those that are made. With --moves the scripts
-have ranges that move, and the sender is one that remembers them. What is printed is checked step by
-step too (journal_check.py). Of the program's words --budget and --cache are heeded.
+--script it is the file's, whose forms must be among those that are made. What is printed is checked
+step by step too (journal_check.py). Of the program's words --budget and --cache are heeded.
 """
 import argparse
 import json
@@ -15,7 +14,7 @@ import subprocess
 import sys
 
 from journal_check import first_fault, text_of
-from script_maker import Maker, MovingMaker
+from script_maker import Maker
 
 BUDGET, CACHE = 100_000, 1_024
 
@@ -70,26 +69,25 @@ def compare(seed, made, command, settings):
     return bool(found)
 
 
-def settings_of(words, moves):
-    """The budget and the capacity by the program's words, and whether its sender remembers."""
+def settings_of(words):
+    """The budget and the capacity of the sender's cache, by the program's words."""
     reader = argparse.ArgumentParser(add_help=False, allow_abbrev=False)
     reader.add_argument("--budget", type=int, default=BUDGET)
     reader.add_argument("--cache", type=int, default=CACHE)
     known, _ = reader.parse_known_args(words)
-    return {"budget": known.budget, "capacity": known.cache, "remembers": moves}
+    return {"budget": known.budget, "capacity": known.cache}
 
 
 def main():
     reader = argparse.ArgumentParser(description="compares a program with a plain store")
-    reader.add_argument("--moves", action="store_true")
     reader.add_argument("--count", type=int, default=200)
     reader.add_argument("--seed", type=int, default=1)
     reader.add_argument("--script")
     reader.add_argument("command", nargs=argparse.REMAINDER)
     words = reader.parse_args()
-    maker, settings = MovingMaker if words.moves else Maker, settings_of(words.command, words.moves)
+    settings = settings_of(words.command)
     seeds = range(words.seed, words.seed + (1 if words.script else words.count))
-    made = ((seed, script_of(words.script) if words.script else maker(seed).script())
+    made = ((seed, script_of(words.script) if words.script else Maker(seed).script())
             for seed in seeds)
     differ = sum(compare(*one, words.command, settings) for one in made)
     print(f"{len(seeds)} scripts, {differ} differences")

@@ -9,7 +9,7 @@ from itertools import zip_longest
 
 from plain_store import PlainStore, add_write, kind_of, must_see_one_state, numbers_of, parts_of, \
     span_of, span_of_all
-from sender_habits import REFUSALS, Habits, NoHabits
+from sender_habits import REFUSALS, Habits
 from world import MOVES, World, contains, holds, hull
 
 LOOK = {"dir", "key", "line", "look", "step"}
@@ -171,10 +171,9 @@ class Block:
 class Journal:
     """Plays a script's lines with what was printed of them."""
 
-    def __init__(self, cluster, budget, capacity, remembers):
+    def __init__(self, cluster, budget, capacity):
         self.world, self.store, self.rows = World(cluster), PlainStore(), Rows()
-        self.budget = budget
-        self.habits = Habits(capacity, budget) if remembers else NoHabits()
+        self.budget, self.habits = budget, Habits(capacity, budget)
 
     def line(self, line):
         """Makes a line that prints nothing, or a close."""
@@ -302,12 +301,12 @@ def blocks_of(script, objects):
         yield number, things[:-1], things[-1]
 
 
-def first_fault(script, objects, budget, capacity, remembers):
+def first_fault(script, objects, budget, capacity):
     """What is wrong first with the objects printed for a script, as a text, or None."""
     number = 0
     try:
         printed = {number: things for number, *things in blocks_of(script, objects)}
-        journal = Journal(script[0], budget, capacity, remembers)
+        journal = Journal(script[0], budget, capacity)
         for number, line in enumerate(script, 1):
             if not line:
                 continue

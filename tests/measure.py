@@ -2,7 +2,8 @@
 """Times the program on scripts of rising length: python3 tests/measure.py PROGRAM WORD..
 
 For each sort of script it prints the seconds of processor time and the largest memory at three lengths, so that it can
-be seen that a line costs about the same at the end of a script as at its beginning. Nothing is tested here.
+be seen that a line costs about the same at the end of a script as at its beginning, also where ranges move all the
+time, and that a scan costs in proportion to its ranges. Nothing is tested here.
 
 python3 tests/measure.py --cache crates/ds_bench/out/ds_bench times a call of the cache instead, in a small and in a
 large one: calls that go from range to range, sixteen at a time, as batches do, and calls at random, each of which finds
@@ -69,9 +70,40 @@ def all_forms_over_many_ranges(length):
     return lines
 
 
+def moves_on_every_second_line(length):
+    """A range splits, merges or moves, or an old descriptor is armed; then a batch reads or writes."""
+    pick = random.Random(2)
+    lines = [cluster(1024)]
+    while len(lines) < length:
+        key, node = f"k{pick.randrange(8192):05}", pick.randrange(3) + 1
+        other, stamp = f"k{pick.randrange(8192):05}", len(lines)
+        lines += [pick.choice([
+            {"op": "split", "key": key + "m"},
+            {"op": "merge", "key": key},
+            {"op": "lease", "key": key, "node": node},
+            {"op": "move", "key": key, "nodes": pick.sample([1, 2, 3], 2)},
+            {"op": "stale", "key": key, "back": 1},
+        ]), pick.choice([
+            batch(stamp, {"put": [other, stamp]}),
+            batch(stamp, {"get": other}),
+            dict(batch(stamp, {"scan": [other, other[:-2] + "99z"]}), consistent=False),
+            dict(batch(stamp, {"reverse_scan": [other, other[:-2] + "99z"]}), consistent=False),
+        ])]
+    return lines[:length]
+
+
+def scans_of_thousand_ranges(length):
+    """The same scan again and again over a thousand ranges of one row each, so many ranges in all."""
+    rows = [{"op": "write", "key": f"k{8 * i:05}a", "stamp": 1, "value": i} for i in range(1_000)]
+    scan = dict(batch(10, {"scan": ["k", "l"]}), consistent=False)
+    return [cluster(1_000)] + rows + length // 1_000 * [scan]
+
+
 SORTS = {sort.__name__: sort for sort in [
     puts_of_one_key, old_reads_of_one_key, transactions_over_many_keys, all_forms_over_many_ranges,
+    moves_on_every_second_line, scans_of_thousand_ranges,
 ]}
+UNITS = {"scans_of_thousand_ranges": "ranges"}
 
 
 def measure(command, sort, length):
@@ -134,7 +166,8 @@ def main():
         print(sort.replace("_", " "))
         for length in LENGTHS:
             seconds, memory, status = measure(sys.argv[1:], sort, length)
-            print(f"  {length:6} lines: {seconds:5.2f} s, {memory:4} MB, status {status}")
+            unit = UNITS.get(sort, "lines")
+            print(f"  {length:6} {unit}: {seconds:5.2f} s, {memory:4} MB, status {status}")
 
 
 if __name__ == "__main__":

@@ -1,6 +1,7 @@
 """Makes random scripts: right ones, and at times one with a line of a form that isn't replayed.
 
-A maker follows the script's world as it goes, so that its lines meet ranges that are there.
+Ranges move between the batches and, step by step, beside them. A maker follows the script's world
+as it goes, so that its lines meet ranges that are there.
 """
 import random
 from collections import namedtuple
@@ -30,19 +31,17 @@ STYLES = (Style("abc", 12, 7, 0, 0, 1, 1, (1, 1, 1, 1, 1)),
 class Maker:
     """Makes one random script, line by line; `open` is the stamp of the open transaction."""
 
-    reads, copies = ("get", "scan"), 7
-
     def __init__(self, seed):
-        self.random, self.open, self.world = random.Random(seed), None, None
+        self.random, self.open, self.world, self.nodes = random.Random(seed), None, None, None
         self.clock = self.random.randint(1, 8)
-        self.letters = "abc" if self.chance(85) else "a\0\u00fe\u00ff"
+        self.style = self.random.choice(STYLES)
 
     def chance(self, percent):
         return self.random.randrange(100) < percent
 
     def key(self, least=0):
-        key = "".join(self.random.choices(self.letters, k=self.random.randint(least, 3)))
-        return key if key < BOUND else "a"
+        key = "".join(self.random.choices(self.style.letters, k=self.random.randint(least, 3)))
+        return "a" * 60 * self.chance(1) + (key if key < BOUND else "a")
 
     def key_in(self, home):
         """A key of the range `home`, where a few tries find one; any key where that is None."""
@@ -57,6 +56,8 @@ class Maker:
         return TOP - self.random.randint(0, 1) if self.chance(2) else max(1, near)
 
     def span(self, home):
+        if self.chance(10):
+            return ["", BOUND]
         one, two = sorted((self.key_in(home), self.key_in(home)))
         if self.chance(3):
             return [two, one]
@@ -71,8 +72,10 @@ class Maker:
             return {kind: {"key": key, "value": self.value(), "expect": expect, **absent}}
         if kind in RANGE_KINDS:
             return {kind: self.span(home)}
-        if kind in ("get", "delete"):
-            return {kind: key}
+        if kind in ("get", "delete", "admin_split"):
+            return {kind: "a" * 64 if kind != "admin_split" and self.chance(1) else key}
+        if kind == "admin_lease":
+            return {kind: [key, self.node(key)]}
         return {kind: [key, self.random.choice(INTS) if kind == "increment" else self.value()]}
 
     def requests(self, kinds, home):
@@ -81,131 +84,33 @@ class Maker:
         return [self.request(self.random.choice(kinds), home)
                 for _ in range(self.random.choice((1, 1, 2, 3, 4, 6)))]
 
-    def starts(self):
-        return {self.key(1) + "\0" * self.chance(15) for _ in range(self.random.randint(0, 11))}
-
     def homes(self, nodes):
         """The nodes of a range, of so many."""
-        many = self.random.randint(1, min(nodes, self.copies))
+        many = self.random.randint(1, min(nodes, self.style.copies))
         return self.random.sample(range(1, nodes + 1), many)
 
     def cluster(self):
-        starts = self.starts()
-        nodes, ranges = self.random.choice((1, 3, 5, 64)), []
+        starts = {self.key(1) for _ in range(self.random.randrange(self.style.ranges))}
+        self.nodes, ranges = self.random.choice((1, 3, 5, 64)), []
         for start in [""] + sorted(starts):
-            homes = self.homes(nodes)
+            homes = self.homes(self.nodes)
             ranges.append({"start": start, "nodes": homes, "lease": self.random.choice(homes)})
-        line = {"op": "cluster", "nodes": nodes, "ranges": ranges}
+        line = {"op": "cluster", "nodes": self.nodes, "ranges": ranges}
         self.world = World(line)
         return line
 
-    def write(self):
-        stamp = min(TOP, self.open + self.random.randint(1, 4)) if self.open else self.stamp()
-        value = None if self.chance(20) else self.value()
-        return {"op": "write", "key": self.key(), "stamp": stamp, "value": value}
-
-    def own_batch(self):
-        """A batch with a stamp; beside an open transaction it reads below its stamp."""
-        stamp, reads = self.stamp(), self.reads
-        kinds = reads if self.chance(35) else WRITES if self.chance(92) else reads + WRITES
-        if self.open:
-            kinds, stamp = reads, self.random.randint(max(1, self.open - 8), self.open - 1)
-        home = self.random.choice(self.world.ranges) if self.chance(75) else None
-        line = {"op": "batch", "stamp": stamp, "requests": self.requests(kinds, home)}
-        if self.chance(50 if kinds == reads else 4):
-            line["consistent"] = self.chance(20)
-        return line
-
-    def txn_batch(self):
-        line = {"op": "batch", "txn": True, "requests": self.requests(self.reads, None)}
-        return dict(line, consistent=self.chance(50)) if self.chance(5) else line
-
-    def begin(self):
-        self.open = self.stamp()
-        return {"op": "begin", "stamp": self.open, "key": self.key()}
-
-    def close(self):
-        self.open = None
-        return {"op": "close"}
-
-    def unbuilt(self):
-        """A line that is right and yet of a form that isn't replayed."""
-        key, stamp = self.key(), max(1, (self.open or 2) - 1)
-        batch = {"op": "batch", "stamp": stamp, "requests": [{"admin_split": key}]}
-        read, txn = dict(batch, requests=[{"get": key}]), {"op": "batch", "txn": True}
-        lines = [batch, {"op": "split", "key": key}, {"op": "move", "key": key, "nodes": [1]},
-                 {"op": "stale", "key": key, "back": 1}, {"op": "arrive", "copy": 1}]
-        if self.open != 1:
-            lines += [dict(read, limit=2), dict(read, requests=[{"reverse_scan": ["a", "b"]}]),
-                      dict(read, events=[{"op": "merge", "at": 1, "key": key}])]
-        if self.open:
-            lines += [{"op": "abort"}, dict(txn, requests=[{"put": [key, 1]}])]
-        return self.random.choice(lines)
-
-    def line(self):
-        self.clock += self.chance(25)
-        draw = self.random.randrange(100)
-        if not self.open:
-            return self.write() if draw < 30 else self.own_batch() if draw < 90 else self.begin()
-        if draw < 20 and self.open < TOP:
-            return self.write()
-        if draw < 40 and self.open > 1:
-            return self.own_batch()
-        return self.txn_batch() if draw < 80 else self.close()
-
-    def script(self):
-        """The lines, None for a blank one, and the number of the line of an unbuilt form."""
-        lines, fault, size = [self.cluster()], None, self.random.randint(0, 40)
-        unbuilt = self.random.randint(0, size) if self.chance(5) else None
-        for place in range(size + 1):
-            lines += [None] * self.chance(3)
-            if place == unbuilt:
-                lines.append(self.unbuilt())
-                fault = len(lines)
-            lines.append(self.line())
-        return lines + ([self.close()] if self.open else []), fault
-
-
-class MovingMaker(Maker):
-    """Makes a script whose ranges move, between its batches and beside them step by step."""
-
-    reads = ("get", "scan", "reverse_scan")
-
-    def __init__(self, seed):
-        super().__init__(seed)
-        self.style = self.random.choice(STYLES)
-        self.letters, self.copies = self.style.letters, self.style.copies
-
-    def key(self, least=0):
-        return "a" * 60 + super().key(least) if self.chance(1) else super().key(least)
-
-    def span(self, home):
-        return ["", BOUND] if self.chance(10) else super().span(home)
-
-    def request(self, kind, home):
-        if kind in ALONE:
-            key = self.key_in(home) if self.chance(99) else BOUND
-            return {kind: [key, self.node(key)] if kind == "admin_lease" else key}
-        if kind in ("get", "delete") and self.chance(1):
-            return {kind: "a" * 64}
-        return super().request(kind, home)
-
-    def starts(self):
-        return {self.key(1) for _ in range(self.random.randrange(self.style.ranges))}
-
-    def cluster(self):
-        line = super().cluster()
-        self.nodes = line["nodes"]
-        return line
+    def row(self, key):
+        """The range that contains the key, or the last one for the bound."""
+        return self.world.ranges[self.world.place(key)]
 
     def node(self, key):
         """A node, most often a replica of the range that contains the key."""
-        nodes = self.world.ranges[self.world.place(key)][4]
-        return self.random.choice(nodes if self.chance(85) else range(1, self.nodes + 1))
+        return self.random.choice(self.row(key)[4] if self.chance(85)
+                                  else range(1, self.nodes + 1))
 
     def replicas(self, key):
         """Nodes for the range that contains the key, at times of those that it has."""
-        old = self.world.ranges[self.world.place(key)][4]
+        old = self.row(key)[4]
         if self.chance(15):
             return self.random.sample(old, len(old) - (len(old) > 1 and self.chance(50)))
         return self.homes(self.nodes)
@@ -220,6 +125,11 @@ class MovingMaker(Maker):
             return {"op": op, "key": key, "back": self.back()}
         more = {"lease": ("node", self.node), "move": ("nodes", self.replicas)}
         return {"op": op, "key": key, **({more[op][0]: more[op][1](key)} if op in more else {})}
+
+    def write(self):
+        stamp = min(TOP, self.open + self.random.randint(1, 4)) if self.open else self.stamp()
+        value = None if self.chance(20) else self.value()
+        return {"op": "write", "key": self.key(), "stamp": stamp, "value": value}
 
     def event(self, requests, floor):
         """An event beside a batch; a write is above the floor, often at a key that is asked for."""
@@ -245,47 +155,100 @@ class MovingMaker(Maker):
             line["picks"] = self.random.choices(picks, k=self.random.choice((0, 1, 3, 20, 60)))
         return line
 
-    def own_batch(self):
-        if self.chance(88):
-            line = super().own_batch()
-            if self.chance(50) and all(kind_of(one) in READS for one in line["requests"]):
-                line["consistent"] = False
-            return self.with_block(line)
-        kinds = ALONE if self.chance(95) else ALONE + ("get", "put")
+    def stamped_batch(self):
+        """A batch with a stamp that reads or writes; beside a transaction it reads below that."""
+        stamp = self.stamp()
+        kinds = READS if self.chance(35) else WRITES if self.chance(92) else READS + WRITES
+        if self.open:
+            kinds, stamp = READS, self.random.randint(max(1, self.open - 8), self.open - 1)
+        home = self.random.choice(self.world.ranges) if self.chance(75) else None
+        line = {"op": "batch", "stamp": stamp, "requests": self.requests(kinds, home)}
+        if self.chance(50 if kinds == READS else 4):
+            line["consistent"] = self.chance(20)
+        if self.chance(50) and all(kind_of(one) in READS for one in line["requests"]):
+            line["consistent"] = False
+        return line
+
+    def admin_batch(self):
+        """A batch that splits a range or moves a lease; where it asks for more it is illegal."""
+        kinds = ALONE if self.open or self.chance(75) else ALONE + ("get", "put")
         requests = [self.request(self.random.choice(ALONE), None)]
         requests += [self.request(self.random.choice(kinds), None)] * self.chance(5)
         line = {"op": "batch", "stamp": self.stamp(), "requests": requests}
-        return self.with_block(dict(line, consistent=self.chance(80)) if self.chance(20) else line)
+        return dict(line, consistent=self.chance(80)) if self.chance(20) else line
+
+    def own_batch(self):
+        return self.with_block(self.stamped_batch() if self.chance(88) else self.admin_batch())
 
     def txn_batch(self):
-        return self.with_block(super().txn_batch())
+        line = {"op": "batch", "txn": True, "requests": self.requests(READS, None)}
+        return self.with_block(dict(line, consistent=self.chance(50)) if self.chance(5) else line)
+
+    def begin(self):
+        self.open = self.stamp()
+        return {"op": "begin", "stamp": self.open, "key": self.key()}
+
+    def close(self):
+        self.open = None
+        return {"op": "close"}
 
     def unbuilt(self):
+        """A line that is right and yet of a form that isn't replayed."""
         key, stamp = self.key(), max(1, (self.open or 2) - 1)
         batch, txn = {"op": "batch", "stamp": stamp}, {"op": "batch", "txn": True}
         lines = [dict(batch, requests=[{"resolve": [key, 1]}]), {"op": "arrive", "copy": 1},
                  dict(batch, requests=[{"resolve_range": ["a", "b", 1]}])]
+        events = [{"op": "lose_request"}, {"op": "lose_reply", "copy": 3},
+                  {"op": "copy", "copy": 7}, {"op": "arrive", "copy": 1}]
+        events += [{"op": "abort"}] * bool(self.open)
         if self.open != 1:
             read = dict(batch, requests=[{"reverse_scan": ["a", "b"]}])
-            lines += [dict(read, limit=2), dict(read, events=[{"op": "lose_reply", "at": 1}]),
-                      dict(read, events=[{"op": "copy", "at": 2, "copy": 7}])]
+            lines += [dict(read, limit=2),
+                      dict(read, events=[dict(self.random.choice(events), at=2)])]
+        ends = ({"end": {"commit": True}}, {"query_intent": [key, 1]})
         if self.open:
-            kinds = ({"put": [key, 1]}, {"end": {"commit": True}}, {"admin_split": key},
-                     {"query_intent": [key, 1]})
+            kinds = ({"put": [key, 1]}, {"admin_split": key}, *ends)
             lines += [dict(txn, requests=[self.random.choice(kinds)]), {"op": "abort"},
                       {"op": "restart"}]
+        else:
+            lines.append(dict(batch, requests=[self.random.choice(ends)]))
         return self.random.choice(lines)
 
     def line(self):
-        line = self.move() if self.chance(self.style.moves) else super().line()
+        """The next line; the world's ranges move as it does, more or less where it is a batch."""
+        self.clock += self.chance(25)
+        line = self.move() if self.chance(self.style.moves) else self.asking_line()
         self.follow(line)
         return line
 
+    def asking_line(self):
+        """A line that writes, begins, asks or closes."""
+        draw = self.random.randrange(100)
+        if not self.open:
+            return self.write() if draw < 30 else self.own_batch() if draw < 90 else self.begin()
+        if draw < 20 and self.open < TOP:
+            return self.write()
+        if draw < 40 and self.open > 1:
+            return self.own_batch()
+        return self.txn_batch() if draw < 80 else self.close()
+
     def follow(self, line):
-        """Moves the world's ranges as the line does, more or less where it is a batch."""
+        """Moves the world's ranges as the line and its events do."""
         for event in [line] + line.get("events", []):
             if event["op"] in MOVES:
                 self.world.event(event)
         requests = line.get("requests", ())
         if requests and kind_of(requests[0]) == "admin_split" and not illegal(line):
             self.world.split(requests[0]["admin_split"])
+
+    def script(self):
+        """The lines, None for a blank one, and the number of the line of an unbuilt form."""
+        lines, fault, size = [self.cluster()], None, self.random.randint(0, 40)
+        unbuilt = self.random.randint(0, size) if self.chance(5) else None
+        for place in range(size + 1):
+            lines += [None] * self.chance(3)
+            if place == unbuilt:
+                lines.append(self.unbuilt())
+                fault = len(lines)
+            lines.append(self.line())
+        return lines + ([self.close()] if self.open else []), fault

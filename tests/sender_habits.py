@@ -97,17 +97,6 @@ class Way:
         return is_sure or not self.row
 
 
-class NoHabits:
-    """Of a sender that remembers nothing no more is asked than that its steps are legal."""
-
-    still = True
-
-    def begin(self, *_):
-        return None
-
-    step_fault = note = batch_fault = begin
-
-
 class Habits:
     """What is known so far: what is remembered, where pieces go, and what the batch was told."""
 

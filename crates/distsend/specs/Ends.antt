@@ -4,13 +4,13 @@ use Rattle.std.specs.Io.KnownBytes.{Consumes, Appends, IsAtEnd}
 use Rattle.ds_base.specs.Counts.{Rose}
 use Rattle.ds_rule.specs.declared.journal.Entry.{Entry}
 use Rattle.ds_script.specs.declared.line.Numbered.{Numbered}
-use Rattle.ds_script.specs.Journals.{AllGathered, LegalJournal}
+use Rattle.ds_script.specs.Journals.{LegalJournal}
 use Rattle.ds_script.specs.PlainRuns.{PlainRun}
 use Rattle.ds_script.specs.Script.{Fault, most_bytes, script_of}
 use Rattle.ds_text.specs.Log.{text_of}
 use Rattle.ds_replay.specs.Built.{first_unbuilt}
 use Rattle.ds_replay.specs.Causes.{AllCaused}
-use Rattle.ds_replay.specs.Comes.{AllMayCome}
+use Rattle.ds_replay.specs.Gathers.{AllGathered}
 use Rattle.distsend.specs.Texts.{fault_text, unbuilt, usage_text}
 use Rattle.distsend.specs.declared.status.Status.{Status}
 use Rattle.distsend.specs.declared.status.Status.TheVariants.{Done, BadScript, Usage, ReadFault, WriteFault, Memory}
@@ -43,14 +43,13 @@ budget = 100000
 
 -- the text is that of a log, whose journal is one that the cluster allows, whose Ok answers are gathered of what their
 -- pieces were answered, whose answers are those of one plain store asked the same batches in order, and each of whose
--- answers has its cause and is one that may come
+-- answers has its cause
 pub record IsReplay (script : List Numbered) (text : List ℕ) : Type 0 where
   pub log : List Entry
   pub legal : LegalJournal script log
   pub gathered : AllGathered script log
   pub plain : PlainRun script log
   pub caused : AllCaused budget script log
-  pub comes : AllMayCome log
   pub text_is : text ≡ text_of log
 
 -- the source gave a script of a form that is built, and the text is that of its replay

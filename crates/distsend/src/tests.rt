@@ -17,10 +17,8 @@ const SCRIPT: &str =
 const TEXT: &str =
     "{\"dir\":\"forward\",\"key\":\"a\",\"line\":6,\"look\":[[1,\"\",\"g\",1,[1,2,3],1,1],[2,\"g\",\"p\",1,[1,2,3],2,1],[3,\"p\",\"ÿÿ\",1,[1,2,3],3,1]],\"step\":1}\n\
     {\"left\":null,\"line\":6,\"node\":1,\"piece\":[[0,\"a\",\"g\",0]],\"range\":1,\"send\":{\"done\":[{\"rows\":[[\"b\",\"x\"]]}]},\"step\":2}\n\
-    {\"dir\":\"forward\",\"key\":\"g\",\"line\":6,\"look\":[[2,\"g\",\"p\",1,[1,2,3],2,1],[3,\"p\",\"ÿÿ\",1,[1,2,3],3,1]],\"step\":3}\n\
-    {\"left\":null,\"line\":6,\"node\":2,\"piece\":[[0,\"g\",\"p\",0]],\"range\":2,\"send\":{\"done\":[{\"rows\":[[\"h\",7]]}]},\"step\":4}\n\
-    {\"dir\":\"forward\",\"key\":\"p\",\"line\":6,\"look\":[[3,\"p\",\"ÿÿ\",1,[1,2,3],3,1]],\"step\":5}\n\
-    {\"left\":null,\"line\":6,\"node\":3,\"piece\":[[0,\"p\",\"z\",0]],\"range\":3,\"send\":{\"done\":[{\"rows\":[[\"q\",\"y\"]]}]},\"step\":6}\n\
+    {\"left\":null,\"line\":6,\"node\":2,\"piece\":[[0,\"g\",\"p\",0]],\"range\":2,\"send\":{\"done\":[{\"rows\":[[\"h\",7]]}]},\"step\":3}\n\
+    {\"left\":null,\"line\":6,\"node\":3,\"piece\":[[0,\"p\",\"z\",0]],\"range\":3,\"send\":{\"done\":[{\"rows\":[[\"q\",\"y\"]]}]},\"step\":4}\n\
     {\"answer\":{\"ok\":[{\"rows\":[[\"b\",\"x\"],[\"h\",7],[\"q\",\"y\"]]}]},\"line\":6}\n\
     {\"close\":\"aborted\",\"line\":7}\n";
 

@@ -288,17 +288,16 @@ fn is_unbuilt(alloc: Global, line: &str) -> Result<bool, AllocError> {
     }
 }
 
-const UNBUILT: &str = r#"{"op":"split","key":"b"}
-{"op":"merge","key":"b"}
-{"op":"lease","key":"b","node":2}
-{"op":"move","key":"b","nodes":[1,2]}
-{"op":"stale","key":"b","back":1}
-{"op":"arrive","copy":1}
+const UNBUILT: &str = r#"{"op":"arrive","copy":1}
 {"op":"abort"}
 {"op":"restart"}
 {"op":"batch","txn":true,"requests":[{"get":"a"}],"events":[{"op":"abort","at":1}]}
-{"op":"batch","txn":true,"requests":[{"get":"a"}],"picks":[0]}
-{"op":"batch","txn":true,"requests":[{"get":"a"}],"limit":1}"#;
+{"op":"batch","txn":true,"requests":[{"get":"a"}],"events":[{"op":"arrive","at":1,"copy":1}]}
+{"op":"batch","txn":true,"requests":[{"get":"a"}],"events":[{"op":"lose_request","at":1}]}
+{"op":"batch","txn":true,"requests":[{"get":"a"}],"events":[{"op":"lose_reply","at":1}]}
+{"op":"batch","txn":true,"requests":[{"get":"a"}],"limit":1}
+{"op":"batch","stamp":5,"requests":[{"resolve":["a",1]}]}
+{"op":"batch","stamp":5,"requests":[{"resolve_range":["a","b",1]}]}"#;
 
 #[test]
 fn forms_that_are_not_built(rt: HostRuntime) -> Result<(), Fail> {
@@ -314,7 +313,6 @@ const UNBUILT_REQUESTS: &str = r#"{"put":["a",1]}
 {"increment":["a",1]}
 {"delete":"a"}
 {"delete_range":["a","b"]}
-{"reverse_scan":["a","b"]}
 {"end":{"commit":true}}
 {"query_intent":["a",1]}
 {"resolve":["a",1]}
