@@ -9,7 +9,6 @@ use Rattle.ds_retry.specs.Counted.{Counts, first_counts}
 use Rattle.ds_retry.specs.declared.outcome.PartOutcome.{PartOutcome}
 use Rattle.ds_retry.specs.declared.outcome.PartOutcome.TheVariants as Ends
 use Rattle.ds_rule.specs.declared.answer.Outcome.{Outcome}
-use Rattle.ds_rule.specs.declared.answer.Outcome.TheVariants as Outcome
 use Rattle.ds_rule.specs.Asking.{Asking}
 use Rattle.ds_rule.specs.Clauses.{Stands}
 use Rattle.ds_rule.specs.Whole.{must_be_whole, whole_of}

@@ -7,9 +7,8 @@ use Rattle.std.proofs.lemmas.List.Folds.{flat_map-map}
 use Rattle.ds_base.specs.declared.value.Seq.{Seq}
 use Rattle.ds_base.specs.declared.value.Stamp.{Stamp}
 use Rattle.ds_base.specs.declared.value.TxnNo.{TxnNo}
-use Rattle.ds_base.proofs.SmallFacts.{and_both, and_first, and_second, or_first, or_neither, or_second}
+use Rattle.ds_base.proofs.SmallFacts.{and_both, and_first, and_second, or_neither}
 use Rattle.ds_base.proofs.TestFacts.{never, not_both}
-use Rattle.ds_cell.specs.Store.{Asker}
 use Rattle.ds_kind.specs.Asks.{acts, flags_at, has_proper_span, is_end, is_get_or_scan, takes_number}
 use Rattle.ds_kind.specs.Groups.{groups}
 use Rattle.ds_kind.specs.Numbers.{next_number, numbers_from}
@@ -28,12 +27,17 @@ use Rattle.ds_rule.specs.Asking.{Asking, asking, asking_by}
 use Rattle.ds_rule.specs.Pieces.{Each, parts_apart}
 use Rattle.ds_rule.specs.Whole.{any_transactional, must_be_whole}
 use Rattle.ds_send.specs.Asked.{asker_in, last_in}
-use Rattle.ds_send.specs.Batch.{is_value_write}
+use Rattle.ds_send.specs.Forms.{is_value_write}
 use Rattle.ds_send.specs.Forms.{can_ask, can_ask_alone, can_send, is_admin}
 use Rattle.ds_send.specs.Moving.{GoesAtOnce, IsMovable, IsSound}
 use Rattle.ds_send.specs.declared.txn.Txn.{Txn}
 use Rattle.ds_send.proofs.PartSteps.{rises-left, rises-right}
-use Rattle.ds_send.proofs.Readings.{none-limit}
+
+-- ---- no limit
+
+none-limit : (o : Option ℕ) → is_none o ≡ true → o ≡ None
+none-limit None h = refl
+none-limit (Some n) h = cc
 
 -- ---- the requests
 

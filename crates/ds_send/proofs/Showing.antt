@@ -1,5 +1,5 @@
 -- Why a batch was answered so, as its steps show it.
-use Rattle.std.proofs.Common.{◌≡◌, Bool, true, false, ℕ, zero, suc, ◌+◌, ◌<◌, List, [], ◌∷◌, ◌++◌, inl, inr, refl, sym, ap, ◌∙◌, subst, arith}
+use Rattle.std.proofs.Common.{◌≡◌, Bool, true, false, ℕ, zero, suc, ◌+◌, ◌<◌, List, [], ◌∷◌, ◌++◌, inl, inr, sym, ap, ◌∙◌, subst, arith}
 use Rattle.std.proofs.lemmas.List.{append_cancel_left}
 use Rattle.ds_cache.specs.Entries.{Entry}
 use Rattle.ds_desc.specs.declared.desc.RangeDesc.{RangeDesc}
@@ -10,15 +10,14 @@ use Rattle.ds_retry.specs.declared.outcome.PartOutcome.{PartOutcome}
 use Rattle.ds_retry.specs.declared.outcome.PartOutcome.TheVariants as Ends
 use Rattle.ds_rule.specs.declared.answer.Answer.TheVariants.{Done, Failed, Refused, Lost}
 use Rattle.ds_rule.specs.declared.answer.Outcome.{Outcome}
-use Rattle.ds_rule.specs.declared.answer.Outcome.TheVariants as Outcome
 use Rattle.ds_rule.specs.declared.journal.JournalStep.TheVariants.{Look, Send}
 use Rattle.ds_rule.specs.Asking.{Asking}
-use Rattle.ds_rule.specs.Cause.{UsedUp, lost_in, refused_in}
+use Rattle.ds_rule.specs.Cause.{lost_in, refused_in}
 use Rattle.ds_rule.specs.Clauses.{Stands}
 use Rattle.ds_rule.specs.Journal.{Happening, Moved, Did}
 use Rattle.ds_rule.specs.Law.{IsGiven}
 use Rattle.ds_rule.specs.Whole.{OfPartsIf, must_be_whole, span_if, whole_of}
-use Rattle.ds_flight.specs.Causes.{GoesOn, IsAmbiguous, IsExhausted, IsFailed}
+use Rattle.ds_flight.specs.Causes.{GoesOn, IsExhausted, IsFailed}
 use Rattle.ds_flight.specs.Counting.{counted, counted_step}
 use Rattle.ds_flight.specs.Goes.{known_after}
 use Rattle.ds_flight.specs.Ran.{AreKnown}
@@ -26,7 +25,7 @@ use Rattle.ds_flight.specs.Searches.{course}
 use Rattle.ds_flight.proofs.Caching.{entries-first}
 use Rattle.ds_send.specs.Batched.{BatchEnds, BatchLeft, BatchRan, OfParts}
 use Rattle.ds_send.specs.Calls.{Flew, FlewOrBroke, IsShown, Learned, Shows, descs_in}
-use Rattle.ds_send.specs.Causes.{CauseOf, HasFailed, IsInDoubt, RanOut, missed_in, risked_in}
+use Rattle.ds_send.specs.Causes.{CauseOf, HasFailed, RanOut, missed_in, risked_in}
 use Rattle.ds_send.specs.Settled.{exhausted_as, failed_as, settled_as}
 use Rattle.ds_send.proofs.DidSends.{counts-budget, counts-lost, counts-refused}
 

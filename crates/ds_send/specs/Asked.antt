@@ -1,5 +1,5 @@
 -- A transaction as its client knows it.
-use Rattle.std.specs.Prelude.{Option, Some, None}
+use Rattle.std.specs.Prelude.{◌≤◌, Option, Some, None}
 use Rattle.std.specs.Option.{option_map}
 use Rattle.ds_base.specs.declared.value.Seq.{Seq}
 use Rattle.ds_base.specs.declared.value.Stamp.{Stamp}
@@ -17,3 +17,12 @@ abbrev pub last_in : Option Stamp → Option Txn → Seq
 last_in (Some s) t = record { 0 = 0 }
 last_in None (Some t) = t.last
 last_in None None = record { 0 = 0 }
+
+-- a batch of the transaction has one, which has numbers left to give
+abbrev pub IsOpenFor : Option Stamp → Option Asker → Type 0
+IsOpenFor (Some s) t = Unit {0}
+IsOpenFor None None = ⊥
+IsOpenFor None (Some t) = t.last ≤ 4000000000
+
+not_without_one : IsOpenFor None None → ⊥
+not_without_one h = h

@@ -24,6 +24,11 @@ use Rattle.ds_send.specs.Settled.{settled_as}
 
 -- ---- a batch that breaks a rule
 
+-- it is answered with the first such rule, and nothing is done
+abbrev pub Ruled : Option Illegal → Outcome → Stands → Stands → Type 0
+Ruled (Some i) o a b = (o ≡ Outcome.Illegal i) × (b ≡ a)
+Ruled None o a b = Unit {0}
+
 -- it leaves a sender, or its cache, as it was
 abbrev pub StaysIf : {X : Type 0} → Option Illegal → X → X → Type 0
 StaysIf (Some i) s t = t ≡ s

@@ -6,8 +6,17 @@ use Rattle.ds_base.specs.declared.value.Value.TheVariants.{Int}
 use Rattle.ds_kind.specs.Asks.{is_get_or_scan}
 use Rattle.ds_kind.specs.declared.batch.Batch.{Batch}
 use Rattle.ds_kind.specs.declared.request.Request.{Request}
-use Rattle.ds_kind.specs.declared.request.Request.TheVariants.{AdminSplit, AdminTransferLease, Put, ReverseScan}
-use Rattle.ds_send.specs.Batch.{is_value_write}
+use Rattle.ds_kind.specs.declared.request.Request.TheVariants.{AdminSplit, AdminTransferLease, ConditionalPut, Delete, DeleteRange, Increment, InitPut, Put, ReverseScan}
+
+-- a write of a value
+abbrev pub is_value_write : Request → Bool
+is_value_write (Put a) = true
+is_value_write (ConditionalPut a) = true
+is_value_write (InitPut a) = true
+is_value_write (Increment a) = true
+is_value_write (Delete a) = true
+is_value_write (DeleteRange a) = true
+is_value_write r = false
 
 -- a split of a range, or a transfer of its lease
 abbrev pub is_admin : Request → Bool

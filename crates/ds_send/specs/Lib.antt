@@ -1,12 +1,8 @@
 pub mod Asked
-pub mod Batch
 pub mod Batched
-pub mod Bodies
 pub mod Calls
 pub mod Causes
 pub mod Forms
 pub mod Moving
-pub mod Routed
 pub mod Sender
-pub mod Sent
 pub mod Settled

@@ -7,8 +7,3 @@ pub record SenderState : Type 0 where
   pub entries : List Entry
   pub capacity : ℕ
   pub budget : ℕ
-
--- of a sender over ranges that stay as they are: how many descriptors it might hold, and the same budget
-pub record FixedState : Type 0 where
-  pub capacity : ℕ
-  pub budget : ℕ

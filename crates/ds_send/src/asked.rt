@@ -3,7 +3,7 @@ ghost use Rattle.std.specs.Prelude.{◌≡◌, ◌≤◌, length, IfOk};
 ghost use Rattle.ds_kind.specs.Parts.{items_from};
 ghost use Rattle.ds_rule.specs.Asking.{asking, numbered};
 ghost use Rattle.ds_send.specs.Asked.{asker_in};
-ghost use Rattle.ds_send.specs.Sent.{IsOpenFor};
+ghost use Rattle.ds_send.specs.Asked.{IsOpenFor};
 
 use crate::txn::Txn;
 use ds_base::{Copies, Seq};

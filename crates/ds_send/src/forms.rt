@@ -2,9 +2,8 @@
 ghost use Rattle.std.specs.Prelude.{◌≡◌};
 ghost use Rattle.std.specs.List.{list_all};
 ghost use Rattle.ds_kind.specs.Asks.{is_get_or_scan};
-ghost use Rattle.ds_send.specs.Forms.{can_ask, can_ask_alone, can_send, is_admin};
+ghost use Rattle.ds_send.specs.Forms.{can_ask, can_ask_alone, can_send, is_admin, is_value_write};
 
-use crate::batch::is_value_write;
 use ds_base::Stamp;
 use ds_kind::{Batch, Request};
 
@@ -14,6 +13,20 @@ fn is_read(request: &Request) -> bool
     matches!(
         request,
         Request::Get(_) | Request::Scan(_) | Request::ReverseScan(_)
+    )
+}
+
+fn is_value_write(request: &Request) -> bool
+    ensures { result ≡ is_value_write request.now }
+{
+    matches!(
+        request,
+        Request::Put(_)
+            | Request::ConditionalPut(_)
+            | Request::InitPut(_)
+            | Request::Increment(_)
+            | Request::Delete(_)
+            | Request::DeleteRange(_)
     )
 }
 

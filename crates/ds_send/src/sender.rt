@@ -10,7 +10,8 @@ ghost use Rattle.ds_rule.specs.Pieces.{parts_apart};
 ghost use Rattle.ds_send.specs.Asked.{asker_in, last_in};
 ghost use Rattle.ds_send.specs.Calls.{Broke, Flew, FlewOrBroke, IsShown, Learned, StaysIf, WhereAsked};
 ghost use Rattle.ds_send.specs.Forms.{can_send};
-ghost use Rattle.ds_send.specs.Sent.{IsOpenFor, Ruled};
+ghost use Rattle.ds_send.specs.Asked.{IsOpenFor};
+ghost use Rattle.ds_send.specs.Calls.{Ruled};
 
 use crate::asked::asked_by;
 use crate::moving::send_moving;
