@@ -1,149 +1,113 @@
--- The lines of batches.
-use Rattle.std.proofs.Common.{◌≡◌, ℕ, ◌<◌, Bool, true, ◌&&◌, List, Option, Some, None, is_some, is_none, inl, inr, refl, sym, ap, ◌∙◌, subst, nat_lt}
-use Rattle.std.specs.List.{list_all}
-use Rattle.std.specs.Option.{option_map}
-use Rattle.ds_base.proofs.SmallFacts.{and_first, and_second, lt_of, some_of}
-use Rattle.ds_base.specs.declared.value.Stamp.{Stamp}
+-- The line of a batch.
+use Rattle.std.proofs.Common.{◌≡◌, ℕ, ◌≤◌, Bool, true, false, ◌&&◌, List, [], map, Option, Some, None, refl, sym, ap, ◌∙◌, subst}
+use Rattle.ds_base.proofs.SmallFacts.{and_first, and_second}
 use Rattle.ds_kind.specs.declared.batch.Batch.{Batch}
-use Rattle.ds_kind.specs.declared.request.Request.{Request}
-use Rattle.ds_legal.specs.Legal.{IsLegal}
-use Rattle.ds_cell.specs.Store.{Asker, Store, StoreTxn}
-use Rattle.ds_rule.specs.declared.answer.Outcome.{Outcome}
+use Rattle.ds_legal.specs.Rules.{first_illegal}
+use Rattle.ds_cell.specs.Store.{Store}
+use Rattle.ds_coord.specs.declared.txn.Txn.{Txn}
+use Rattle.ds_coord.specs.Agrees.{AgreesIn}
+use Rattle.ds_coord.specs.Client.{after_batch, asker_in, refusal_by}
+use Rattle.ds_coord.proofs.Following.{batch_agrees, refusals_agree}
 use Rattle.ds_rule.specs.declared.event.Block.{Block}
 use Rattle.ds_rule.specs.declared.journal.Entry.{Entry}
 use Rattle.ds_rule.specs.declared.journal.Entry.TheVariants as entries
-use Rattle.ds_rule.specs.Asking.{Asking, asking, asking_by}
-use Rattle.ds_rule.specs.Law.{IsProperRead}
-use Rattle.ds_rule.specs.Pieces.{Each}
-use Rattle.ds_rule.specs.Plain.{Answered, asker_after, count_numbered, if_of_txn}
-use Rattle.ds_rule.specs.StandsFor.{StandsFor, Ready}
-use Rattle.ds_rule.specs.Steady.{Steady}
-use Rattle.ds_law.proofs.Recorded.{Pends}
+use Rattle.ds_rule.specs.Admitting.{refused_by}
+use Rattle.ds_rule.specs.Asking.{Asking, asking}
+use Rattle.ds_rule.specs.Blocks.{BlockPlays}
+use Rattle.ds_rule.specs.Clauses.{Stands}
+use Rattle.ds_rule.specs.Plain.{after_events}
+use Rattle.ds_rule.specs.Plain as Plain
+use Rattle.ds_rule.specs.StandsFor.{open_stamp}
+use Rattle.ds_mean.specs.Means.{Means}
 use Rattle.ds_script.specs.declared.line.Line.TheVariants as lines
 use Rattle.ds_script.specs.Journals.{Played, answered_asks}
-use Rattle.ds_send.specs.Asked.{asker_of}
-use Rattle.ds_send.specs.Batch as Sends
-use Rattle.ds_send.specs.Sent.{IsOpenFor, is_whole}
-use Rattle.ds_send.specs.declared.txn.Txn.{Txn}
-use Rattle.ds_send.proofs.Readings.{as-items, reads-proper, all-plain}
 use Rattle.ds_sim.specs.declared.sim.Sim.{Sim}
 use Rattle.ds_sim.specs.State.{state_of}
 use Rattle.ds_replay.specs.declared.state.State.{State}
 use Rattle.ds_replay.specs.Asked.{AskedBy, begun_block}
-use Rattle.ds_replay.specs.Built.{is_sent, may_stand_by}
-use Rattle.ds_replay.specs.Comes.{MayCome}
-use Rattle.ds_replay.specs.Stages.{IsIn, HasOpen, StandsAt}
+use Rattle.ds_replay.specs.Built.{is_sent}
+use Rattle.ds_replay.specs.Forming.{belongs, floor_at, goes_below, may_happen, stamp_in}
+use Rattle.ds_send.specs.Forms.{can_send}
+use Rattle.ds_send.specs.Asked.{IsOpenFor}
+use Rattle.ds_replay.specs.Sends.{DoneBy}
+use Rattle.ds_replay.specs.Stages.{IsIn}
 use Rattle.ds_replay.specs.Taken.{LineTaken}
-use Rattle.ds_replay.proofs.Answering.{Came, pends-any}
-use Rattle.ds_replay.proofs.AskedLine.{Owes, Turned, came, turned}
-use Rattle.ds_replay.proofs.Readiness.{ready-alone, ready-open}
-use Rattle.ds_replay.proofs.Staying.{asker-stays, no-numbers, same-begun, same-txn, still-open}
+use Rattle.ds_replay.proofs.Answers.{answered-begun}
+use Rattle.ds_replay.proofs.BlockOver.{CanHappen}
+use Rattle.ds_replay.proofs.Came.{Came, came}
+use Rattle.ds_replay.proofs.Clients.{answered-known, asks-after, events-agree, events-begun, events-known, noted-after, same-asker}
+use Rattle.ds_replay.proofs.Counts.{is-asked}
+use Rattle.ds_replay.proofs.Readying.{can-ask, happens-of, open-floor}
 
-alone-asker : (b : Batch) (s : Stamp) (q : Asking) → b.at ≡ Some s → asking None b ≡ Some q → Pends q.head.txn None
-alone-asker b s q at is = subst (λ z. Pends z.head.txn None) (same _ q (subst (λ x. asking_by x None b ≡ Some q) at is)) tt
-  where
-    same : (o q : Asking) → Some o ≡ Some q → o ≡ q
-    same o q h = cc
+-- what a batch's line of a built form says
+pub record IsBatch (o : Option ℕ) (b : Batch) (block : Block) : Type 0 where
+  pub belongs : belongs o b.at ≡ true
+  pub can : can_send b ≡ true
+  pub below : goes_below o b.at b.requests ≡ true
+  pub happens : may_happen (floor_at o b.at) block.events ≡ true
 
--- with no transaction in sight
-
-owes-closed : (sim : Sim) (begun : ℕ) (s : Played) (p : Store) (b : Batch) (at : Stamp) → b.at ≡ Some at → StandsAt (State.Closed sim begun) s p → Owes (state_of sim) None p b s.asks
-owes-closed sim begun s p b at is here =
-    let st = subst (λ w. StandsFor w p) here.0.world here.0.stands in
+pub batch-of : (o : Option ℕ) (b : Batch) (block : Block) → is_sent o b block ≡ true → IsBatch o b block
+batch-of o b block h =
+    let one = and_second (belongs o b.at) (can_send b && (goes_below o b.at b.requests && may_happen (floor_at o b.at) block.events)) h in
+    let two = and_second (can_send b) (goes_below o b.at b.requests && may_happen (floor_at o b.at) block.events) one in
     record {
-      asker = here.1;
-      asked = subst (λ x. IsOpenFor x None) (sym is) tt;
-      none_lost = refl;
-      stands = st;
-      steady = subst Steady here.0.world here.0.steady;
-      ready = λ q asks. ready-alone (state_of sim) p b q at st here.2 is asks;
-      may = λ legal whole q asks. inl here.2;
-      pends = λ q asks. subst (Pends q.head.txn) (sym here.2) (alone-asker b at q is asks);
+      belongs = and_first (belongs o b.at) (can_send b && (goes_below o b.at b.requests && may_happen (floor_at o b.at) block.events)) h;
+      can = and_first (can_send b) (goes_below o b.at b.requests && may_happen (floor_at o b.at) block.events) one;
+      below = and_first (goes_below o b.at b.requests) (may_happen (floor_at o b.at) block.events) two;
+      happens = and_second (goes_below o b.at b.requests) (may_happen (floor_at o b.at) block.events) two;
     }
 
--- what a batch's line makes, from where it came to; `at` says the rest of where the replay stands then
-line-made : (old to : State) (sim new : Sim) (begun budget : ℕ) (t : Option Asker) (b : Batch) (block : Block) (n : ℕ) (log after : List Entry) (s : Played) (p : Store) (q : Asking) (by : AskedBy (state_of sim) (state_of new) budget t b n log after) → Came budget (begun_block (state_of sim) t b) by.mid s.asks p b q by.steps by.outcome → (tn : Turned s p b block n by.steps by.outcome by.mid.world) → IsIn sim begun s p → (IsIn new begun (record { world = by.mid.world; asks = answered_asks b by.outcome s.asks }) tn.next → StandsAt to (record { world = by.mid.world; asks = answered_asks b by.outcome s.asks }) tn.next) → LineTaken budget old to (lines.Batch b block) (Some (entries.Batch n by.steps by.outcome)) s p
-line-made old to sim new begun budget t b block n log after s p q by c tn here at = record {
-  played = record { world = by.mid.world; asks = answered_asks b by.outcome s.asks };
-  next = tn.next;
-  journal = tn.journal;
-  gathers = tn.gathers;
-  plain = tn.plain;
-  cause = c.cause;
-  comes = (c.comes, tt);
-  stands = at (record {
-    world = sym (ap (λ z. z.world) by.last);
-    stands = tn.stands;
-    steady = c.steady;
-    played = here.played;
-    stored = same-begun b by.outcome p tn.next tn.answered ∙ here.stored;
-  });
-}
-
-pub asked-closed : (sim new : Sim) (begun budget : ℕ) (b : Batch) (block : Block) (n : ℕ) (log after : List Entry) (s : Played) (p : Store) (by : AskedBy (state_of sim) (state_of new) budget None b n log after) → 0 < budget → (is_some b.at && is_sent b block) ≡ true → StandsAt (State.Closed sim begun) s p → LineTaken budget (State.Closed sim begun) (State.Closed new begun) (lines.Batch b block) (Some (entries.Batch n by.steps by.outcome)) s p
-asked-closed sim new begun budget b block n log after s p by tries fits here =
-    let at = some_of b.at (and_first (is_some b.at) _ fits) in
-    let sent = and_second (is_some b.at) _ fits in
-    let owes = owes-closed sim begun s p b at.0 at.1 here in
-    let c = came (state_of sim) (state_of new) budget None p b s.asks n log after by tries (and_first (Sends.is_built b) _ sent) owes refl in
-    let tn = turned budget s (state_of sim) by.mid None p b block n c.0 by.steps by.outcome here.0.world here.1 sent c.1 by.past c.2 in
-    line-made (State.Closed sim begun) (State.Closed new begun) sim new begun budget None b block n log after s p c.0 by c.2 tn here.0
-    (λ i. (i, subst (λ x. if_of_txn x (asker_after b by.outcome) s.asks.asker ≡ None) (sym at.1) here.1, same-txn b by.outcome at.0 p tn.next at.1 tn.answered ∙ here.2))
-
--- beside an open transaction, or of it
-
-reads-of : (at : Option Stamp) (t : ℕ) (rs : List Request) (c : Bool) → may_stand_by t at rs ≡ true → (is_some at && c) ≡ true → list_all Sends.is_plain_read rs ≡ true
-reads-of None t rs c m w = cc
-reads-of (Some s) t rs c m w = and_second (nat_lt s.0 t) _ m
-
-below-of : (at : Option Stamp) (t : ℕ) (rs : List Request) → may_stand_by t at rs ≡ true → (s : Stamp) → at ≡ Some s → s.0 < t
-below-of None t rs m s is = cc
-below-of (Some x) t rs m s is = lt_of s.0 t (subst (λ y. nat_lt y.0 t ≡ true) (same x s is) (and_first (nat_lt x.0 t) _ m))
-  where
-    same : (x s : Stamp) → Some x ≡ Some s → x ≡ s
-    same x s h = cc
-
-proper-items : (txn : Txn) (b : Batch) (q : Asking) → may_stand_by txn.stamp.0 b.at b.requests ≡ true → IsLegal b → is_whole b ≡ true → asking (Some (asker_of txn)) b ≡ Some q → Each IsProperRead q.items
-proper-items txn b q may legal whole asks =
-    let as_ = as-items b.at (Some (asker_of txn)) b q asks in
-    subst (Each IsProperRead) (sym as_.items)
-    (reads-proper 0 as_.last b.requests (all-plain b.requests (reads-of b.at txn.stamp.0 b.requests b.consistent may whole)) legal.spans)
-
-owes-open : (o : Option StoreTxn) (sim : Sim) (txn : Txn) (begun : ℕ) (s : Played) (p : Store) (b : Batch) → p.txn ≡ o → may_stand_by txn.stamp.0 b.at b.requests ≡ true → IsOpenFor b.at (Some (asker_of txn)) → IsIn sim begun s p → s.asks.asker ≡ Some (asker_of txn) → HasOpen txn o → Owes (state_of sim) (Some (asker_of txn)) p b s.asks
-owes-open None sim txn begun s p b here may asked at who h = absurd h
-owes-open (Some t) sim txn begun s p b here may asked at who h =
-    let st = subst (λ w. StandsFor w p) at.world at.stands in
+-- the wire as the block began
+can-happen : (a : Stands) (txn : Option Txn) (p : Store) (b : Batch) (block : Block) → IsBatch (stamp_in (asker_in txn)) b block → AgreesIn txn p.txn → CanHappen (begun_block a txn b block) p
+can-happen a txn p b block is agrees =
+    let h = happens-of (floor_at (stamp_in (asker_in txn)) b.at) block.events is.happens in
     record {
-      asker = who;
-      asked = asked;
-      none_lost = refl;
-      stands = st;
-      steady = subst Steady at.world at.steady;
-      ready = λ q asks. subst (λ x. Ready (begun_block (state_of sim) (Some x) b) p b q) h.asker
-          (ready-open (state_of sim) p b q t st here h.known (below-of b.at t.asker.stamp b.requests (subst (λ x. may_stand_by x.stamp b.at b.requests ≡ true) (sym h.asker) may))
-          (subst (λ x. asking (Some x) b ≡ Some q) (sym h.asker) asks));
-      may = λ legal whole q asks. inr (proper-items txn b q may legal whole asks);
-      pends = λ q asks. subst (Pends q.head.txn) (sym here) (pends-any q.head.txn t h.fate);
+      rising = h.rising;
+      moves = h.moves;
+      low = subst (λ t. open_stamp p.txn ≤ floor_at (stamp_in t) b.at) (sym (same-asker txn p agrees)) (open-floor p.txn b.at);
     }
 
-unnumbered : (b : Batch) → b.at ≡ None → Sends.is_built b ≡ true → count_numbered b.requests ≡ 0
-unnumbered b is built = no-numbers b.requests (subst (λ at. list_all (Sends.is_built_request at) b.requests ≡ true) is (and_second (is_none b.limit) _ built))
+-- a batch of a script, from where the replay stood
+pub asked-came : (sim : Sim) (c : Stands) (txn u : Option Txn) (begun budget : ℕ) (b : Batch) (block : Block) (n : ℕ) (log after : List Entry) (s : Played) (p : Store) (by : AskedBy (state_of sim) c budget txn u b block n log after) → IsBatch (stamp_in (asker_in txn)) b block → IsOpenFor b.at (asker_in txn) → IsIn sim txn begun s p
+    → (q : Asking) × (asking (asker_in txn) b ≡ Some q) × Came (first_illegal b) (refused_by b.at b.requests p.txn) budget q (begun_block (state_of sim) txn b block) c.world p b by.steps by.outcome
+asked-came sim c txn u begun budget b block n log after s p by is open-for at =
+    let k = is-asked (asker_in txn) b open-for in
+    let a : Stands = begun_block (state_of sim) txn b block in
+    let same = same-asker txn p at.agrees in
+    let means : Means a.world p = subst (λ w. Means w p) at.world at.means in
+    let refusal : refusal_by b.at b.requests txn ≡ refused_by b.at b.requests p.txn = (refusals_agree b.at b.requests txn p at.agrees).refusal in
+    let below : goes_below (stamp_in (Plain.asker_in p)) b.at b.requests ≡ true = subst (λ t. goes_below (stamp_in t) b.at b.requests ≡ true) same is.below in
+    let floor : a.floor ≡ floor_at (stamp_in (Plain.asker_in p)) b.at = ap (λ t. floor_at (stamp_in t) b.at) same in
+    let asks : asking (Plain.asker_in p) b ≡ Some k.0 = subst (λ t. asking t b ≡ Some k.0) same k.1 in (
+      k.0,
+      k.1,
+      came (first_illegal b) (refused_by b.at b.requests p.txn) budget k.0 a by.mid c p b by.steps by.outcome refl refl refl refl by.still (can-happen (state_of sim) txn p b block is at.agrees) means
+          (λ legal admits. can-ask a p b k.0 legal is.can admits below means floor asks) by.given
+          (subst (λ r. DoneBy (first_illegal b) r budget k.0 a by.mid by.outcome) refusal (by.done k.0 k.1)) by.ended,
+    )
 
-asker-open : (at : Option Stamp) (b : Batch) (o : Outcome) (x : Option Asker) (t : Asker) → b.at ≡ at → Sends.is_built b ≡ true → x ≡ Some t → if_of_txn at (asker_after b o) x ≡ Some t
-asker-open (Some s) b o x t is built h = h
-asker-open None b o x t is built h = ap (option_map (asker_after b o)) h ∙ ap Some (asker-stays b o t (unnumbered b is built))
-
-open-after : (at : Option Stamp) (txn : Txn) (b : Batch) (o : Outcome) (p next : Store) → b.at ≡ at → Sends.is_built b ≡ true → MayCome o → HasOpen txn p.txn → Answered p b o next → HasOpen txn next.txn
-open-after None txn b o p next is built comes h ans = still-open txn b o p next comes is (unnumbered b is built) h ans
-open-after (Some s) txn b o p next is built comes h ans = subst (HasOpen txn) (sym (same-txn b o s p next is ans)) h
-
-pub asked-open : (sim new : Sim) (txn : Txn) (begun budget : ℕ) (b : Batch) (block : Block) (n : ℕ) (log after : List Entry) (s : Played) (p : Store) (by : AskedBy (state_of sim) (state_of new) budget (Some (asker_of txn)) b n log after) → 0 < budget → (may_stand_by txn.stamp.0 b.at b.requests && is_sent b block) ≡ true → IsOpenFor b.at (Some (asker_of txn)) → StandsAt (State.Open sim txn begun) s p → LineTaken budget (State.Open sim txn begun) (State.Open new txn begun) (lines.Batch b block) (Some (entries.Batch n by.steps by.outcome)) s p
-asked-open sim new txn begun budget b block n log after s p by tries fits asked here =
-    let may = and_first (may_stand_by txn.stamp.0 b.at b.requests) _ fits in
-    let sent = and_second (may_stand_by txn.stamp.0 b.at b.requests) _ fits in
-    let built = and_first (Sends.is_built b) _ sent in
-    let owes = owes-open p.txn sim txn begun s p b refl may asked here.0 here.1 here.2 in
-    let c = came (state_of sim) (state_of new) budget (Some (asker_of txn)) p b s.asks n log after by tries built owes refl in
-    let tn = turned budget s (state_of sim) by.mid (Some (asker_of txn)) p b block n c.0 by.steps by.outcome here.0.world here.1 sent c.1 by.past c.2 in
-    line-made (State.Open sim txn begun) (State.Open new txn begun) sim new begun budget (Some (asker_of txn)) b block n log after s p c.0 by c.2 tn here.0
-    (λ i. (i, asker-open b.at b by.outcome s.asks.asker (asker_of txn) refl built here.1, open-after b.at txn b by.outcome p tn.next refl built c.2.comes here.2 tn.answered))
+pub batch-line : (sim new : Sim) (txn u : Option Txn) (begun budget : ℕ) (b : Batch) (block : Block) (n : ℕ) (log after : List Entry) (s : Played) (p : Store) (by : AskedBy (state_of sim) (state_of new) budget txn u b block n log after) → IsBatch (stamp_in (asker_in txn)) b block → IsOpenFor b.at (asker_in txn) → IsIn sim txn begun s p → LineTaken budget (State.Running sim txn begun) (State.Running new u begun) (lines.Batch b block) (Some (entries.Batch n by.steps by.outcome)) s p
+batch-line sim new txn u begun budget b block n log after s p by is open-for at =
+    let k = asked-came sim (state_of new) txn u begun budget b block n log after s p by is open-for at in
+    let c = k.2 in
+    let v = (state_of new).world in
+    let asks : asking s.asks.asker b ≡ Some k.0 = ap (λ x. asking x b) at.asks ∙ k.1 in
+    let same : u ≡ after_batch b by.outcome None txn = by.noted_so ∙ noted-after b by.outcome txn is.can in
+    let agrees : AgreesIn u c.next.txn = subst (λ x. AgreesIn x c.next.txn) (sym same) (batch_agrees p b by.outcome c.next txn c.answered at.agrees) in
+    record {
+      played = record { world = v; asks = answered_asks b by.outcome s.asks };
+      next = after_events block.events c.next;
+      journal = (record { asked = k.0; asks = asks; plays = subst (λ w. BlockPlays k.0 [] 1 block.events w by.steps v) (sym at.world) c.plays }, refl);
+      gathers = ((k.0, asks, c.gathers), refl);
+      plain = (c.next, c.answered, refl);
+      stands = record {
+        world = refl;
+        means = c.means;
+        played = at.played;
+        stored = events-begun block.events c.next ∙ answered-begun b by.outcome p c.next c.answered ∙ at.stored;
+        asks = asks-after b by.outcome txn s.asks.asker at.asks ∙ sym (ap asker_in same);
+        agrees = events-agree block.events c.next u agrees;
+        known = events-known block.events c.next (answered-known b by.outcome p c.next c.sure c.answered at.known);
+      };
+      cause = record { asked = k.0; asks = asks; why = c.cause };
+    }

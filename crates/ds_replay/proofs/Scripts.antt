@@ -1,21 +1,20 @@
 -- Whole scripts, one line after another.
-use Rattle.std.proofs.Common.{◌≡◌, ℕ, zero, suc, get_or, ◌+◌, ◌<◌, ◌≤◌, Bool, true, false, ◌&&◌, List, [], ◌∷◌, ◌++◌, length, take, drop, Option, Some, None, IsSome, nat_lt, nat_le, refl, sym, ap, ◌∙◌, subst, arith}
+use Rattle.std.proofs.Common.{◌≡◌, ℕ, zero, suc, get_or, ◌+◌, ◌*◌, ◌<◌, ◌≤◌, Bool, true, false, ◌&&◌, List, [], ◌∷◌, ◌++◌, length, take, drop, Option, Some, None, IsSome, nat_lt, nat_le, refl, sym, ap, ◌∙◌, subst, arith}
 use Rattle.ds_base.proofs.SmallFacts.{and_first, and_second, le_of, lt_of}
-use Rattle.ds_rule.proofs.Eachs.{each-append}
 use Rattle.ds_cell.specs.Store.{Store, empty_store}
 use Rattle.ds_rule.specs.declared.journal.Entry.{Entry}
 use Rattle.ds_rule.specs.Clauses.{Stands}
 use Rattle.ds_sim.specs.State.{state_of}
 use Rattle.ds_script.specs.declared.line.Line.{Line}
 use Rattle.ds_script.specs.declared.line.Numbered.{Numbered}
-use Rattle.ds_script.specs.Journals.{Played, JournalTurn, GatherTurn, first_played, no_asks, LegalJournal, AllGathered}
+use Rattle.ds_script.specs.Journals.{Played, JournalTurn, first_played, no_asks, LegalJournal}
 use Rattle.ds_script.specs.PlainRuns.{PlainRun, PlainTurn}
 use Rattle.ds_script.specs.Rules.{keeps_rules, numbers_rise}
 use Rattle.ds_script.specs.Runs.{Plays, TakesEntry, has_entry}
 use Rattle.ds_replay.specs.declared.state.State.{State}
 use Rattle.ds_replay.specs.Built.{Stage, first_unbuilt, goes_on, next_stage, unbuilt_from}
 use Rattle.ds_replay.specs.Causes.{CauseTurn, first_told}
-use Rattle.ds_replay.specs.Comes.{AllMayCome, EntryMayCome}
+use Rattle.ds_replay.specs.Gathers.{AllGathered, GatherTurn}
 use Rattle.ds_replay.specs.Stages.{IsCalm, IsWithin, StandsAt, stage_of}
 use Rattle.ds_replay.specs.Taken.{Taken, listed}
 
@@ -42,7 +41,6 @@ pub record Replaying (budget : ℕ) (done ahead : List Numbered) (n : ℕ) (stat
   pub gathers : Plays GatherTurn no_asks done log played.asks
   pub plain : Plays PlainTurn empty_store done log store
   pub causes : Plays (CauseTurn budget) first_told done log (record { asks = played.asks; store = store })
-  pub comes : AllMayCome log
   pub stands : StandsAt state played store
   pub within : IsWithin state n
   pub built : unbuilt_from ahead (stage_of state) ≡ None
@@ -68,7 +66,6 @@ replay-first lines kept built = record {
   gathers = (refl, refl);
   plain = (refl, refl);
   causes = (refl, refl);
-  comes = tt;
   stands = (refl, refl);
   within = tt;
   built = built;
@@ -83,12 +80,11 @@ pub replay-built : {budget : ℕ} (done ahead : List Numbered) (n : ℕ) (state 
 replay-built done ahead n state log l r = goes-some (next_stage (stage_of state) l.line) l.number (unbuilt_from ahead) r.built
 
 calm-more : (a : Stands) (n m : ℕ) → n ≤ m → IsCalm a n → IsCalm a m
-calm-more a n m le calm = let low : a.world.count ≤ n = calm.count in record { count = omega (arith, le, low); block = calm.block }
+calm-more a n m le calm = let low : a.world.count ≤ 1001 * n = calm.count in record { count = omega (arith, le, low); block = calm.block }
 
 within-more : (state : State) (n m : ℕ) → n ≤ m → IsWithin state n → IsWithin state m
 within-more State.Start n m le h = tt
-within-more (State.Closed sim begun) n m le h = let a = h.0 in let b = h.1 in (calm-more (state_of sim) n m le a, omega (arith, le, b))
-within-more (State.Open sim txn begun) n m le h = let a = h.0 in let b = h.1 in (calm-more (state_of sim) n m le a, omega (arith, le, b), h.2)
+within-more (State.Running sim txn begun) n m le h = let a = h.0 in let b = h.1 in (calm-more (state_of sim) n m le a, omega (arith, le, b), h.2)
 
 pub replay-within : {budget : ℕ} (done ahead : List Numbered) (n : ℕ) (state : State) (log : List Entry) (l : Numbered) → Replaying budget done (l ∷ ahead) n state log → IsWithin state 20000
 replay-within done ahead n state log l r = let few : n + length (l ∷ ahead) ≤ 20000 = r.few in within-more state n 20000 (omega (arith, few)) r.within
@@ -104,7 +100,6 @@ replay-more {budget = budget} done ahead n state new log after l r stage within 
       gathers = subst (λ es. Plays GatherTurn no_asks (done ++ l ∷ []) es t.played.asks) (sym taken.logged) (plays-more GatherTurn done no_asks r.played.asks t.played.asks log l taken.entry r.gathers taken.takes t.gathers);
       plain = subst (λ es. Plays PlainTurn empty_store (done ++ l ∷ []) es t.next) (sym taken.logged) (plays-more PlainTurn done empty_store r.store t.next log l taken.entry r.plain taken.takes t.plain);
       causes = subst (λ es. Plays (CauseTurn budget) first_told (done ++ l ∷ []) es (record { asks = t.played.asks; store = t.next })) (sym taken.logged) (plays-more (CauseTurn budget) done first_told (record { asks = r.played.asks; store = r.store }) (record { asks = t.played.asks; store = t.next }) log l taken.entry r.causes taken.takes (t.cause, t.gathers.1, t.plain));
-      comes = subst AllMayCome (sym taken.logged) (each-append EntryMayCome log (listed taken.entry) r.comes t.comes);
       stands = t.stands;
       within = within n r.within;
       built = subst (λ o. goes_on o l.number (unbuilt_from ahead) ≡ None) (sym stage) r.built;

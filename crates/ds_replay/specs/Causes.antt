@@ -1,40 +1,33 @@
 -- Why each answer of a log was given.
-use Rattle.std.specs.Prelude.{◌≡◌, ℕ, Bool, true, false, List, [], map, Option, Some, None, refl}
+use Rattle.std.specs.Prelude.{◌≡◌, ℕ, true, List, [], Option, Some, None, refl}
 use Rattle.ds_kind.specs.declared.batch.Batch.{Batch}
-use Rattle.ds_kind.specs.declared.illegal.Illegal.{Illegal}
 use Rattle.ds_kind.specs.declared.illegal.Illegal.TheVariants as Illegal
 use Rattle.ds_legal.specs.Rules.{first_illegal}
 use Rattle.ds_cell.specs.Store.{Store, empty_store}
 use Rattle.ds_rule.specs.declared.answer.Outcome.{Outcome}
 use Rattle.ds_rule.specs.declared.answer.Outcome.TheVariants as Outcome
+use Rattle.ds_rule.specs.declared.event.Block.{Block}
 use Rattle.ds_rule.specs.declared.journal.Entry.{Entry}
 use Rattle.ds_rule.specs.declared.journal.Entry.TheVariants as entries
 use Rattle.ds_rule.specs.declared.journal.JournalStep.{JournalStep}
+use Rattle.ds_rule.specs.Admitting.{refused_by}
 use Rattle.ds_rule.specs.Asking.{Asking, asking}
-use Rattle.ds_rule.specs.Cause.{CauseOf, WholeCauseOf}
-use Rattle.ds_rule.specs.Journal.{Did}
-use Rattle.ds_rule.specs.Law.{PlainCause}
 use Rattle.ds_script.specs.declared.line.Line.{Line}
 use Rattle.ds_script.specs.declared.line.Line.TheVariants as lines
 use Rattle.ds_script.specs.declared.line.Numbered.{Numbered}
-use Rattle.ds_script.specs.Journals.{Asks, accepted_in, asks_after, no_asks}
+use Rattle.ds_script.specs.Journals.{Asks, asks_after, no_asks}
 use Rattle.ds_script.specs.PlainRuns.{PlainTurn}
 use Rattle.ds_script.specs.Runs.{Plays}
-use Rattle.ds_send.specs.Sent.{is_whole}
+use Rattle.ds_replay.specs.Because.{WhyBatch}
 
--- why a batch that keeps every rule was answered so: what its steps show; and a failure in one piece is the plain
--- store's own
-abbrev pub SentCause : Bool → ℕ → Store → Asking → List JournalStep → Outcome → Type 0
-SentCause true budget p q steps o = WholeCauseOf budget q (map Did steps) o × PlainCause p q o
-SentCause false budget p q steps o = CauseOf budget q (map Did steps) (accepted_in steps) o
-
--- a batch that breaks a rule is answered with the first such rule, without a step; any other never so
-abbrev pub BatchCause : ℕ → Option Illegal → Asks → Store → Batch → List JournalStep → Outcome → Type 0
-BatchCause budget (Some i) a p b steps o = (o ≡ Outcome.Illegal i) × (steps ≡ [])
-BatchCause budget None a p b steps o = (q : Asking) × (asking a.asker b ≡ Some q) × SentCause (is_whole b) budget p q steps o
+-- the batch's answer, for the store as it was
+pub record BatchCause (budget : ℕ) (a : Asks) (p : Store) (b : Batch) (block : Block) (steps : List JournalStep) (o : Outcome) : Type 0 where
+  pub asked : Asking
+  pub asks : asking a.asker b ≡ Some asked
+  pub why : WhyBatch (first_illegal b) (refused_by b.at b.requests p.txn) budget p asked block.events steps o
 
 abbrev pub EntryCause : ℕ → Asks → Store → Line → Option Entry → Type 0
-EntryCause budget a p (lines.Batch b block) (Some (entries.Batch n steps o)) = BatchCause budget (first_illegal b) a p b steps o
+EntryCause budget a p (lines.Batch b block) (Some (entries.Batch n steps o)) = BatchCause budget a p b block steps o
 EntryCause budget a p l e = Unit {0}
 
 -- who asks, and the plain store
@@ -55,8 +48,11 @@ AllCaused budget script log = (v : Told) × Plays (CauseTurn budget) first_told 
 no_requests : Batch
 no_requests = record { at = Some (record { 0 = 5 }); consistent = true; limit = None; requests = [] }
 
-a_broken_rule_is_named : BatchCause 1 (Some Illegal.Empty) no_asks empty_store no_requests [] (Outcome.Illegal Illegal.Empty)
+abbrev none_asked : Asking
+none_asked = record { head = record { at = record { 0 = 5 }; txn = None; left = None; epoch = 0 }; consistent = true; items = [] }
+
+a_broken_rule_is_named : WhyBatch (Some Illegal.Empty) None 1 empty_store none_asked [] [] (Outcome.Illegal Illegal.Empty)
 a_broken_rule_is_named = (refl, refl)
 
-no_other_rule_is_named : BatchCause 1 (Some Illegal.Empty) no_asks empty_store no_requests [] (Outcome.Illegal Illegal.TooMany) → ⊥
+no_other_rule_is_named : WhyBatch (Some Illegal.Empty) None 1 empty_store none_asked [] [] (Outcome.Illegal Illegal.TooMany) → ⊥
 no_other_rule_is_named h = let named : Outcome.Illegal Illegal.TooMany ≡ Outcome.Illegal Illegal.Empty = h.0 in cc

@@ -1,7 +1,10 @@
 pub mod Asked
+pub mod Because
 pub mod Built
 pub mod Causes
-pub mod Comes
+pub mod Forming
 pub mod Forms
+pub mod Gathers
+pub mod Sends
 pub mod Stages
 pub mod Taken

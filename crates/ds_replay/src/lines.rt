@@ -1,49 +1,97 @@
 //! The lines of a script, one after another.
 ghost use Rattle.std.specs.Prelude.{◌≡◌, ◌<◌, ◌≤◌, ◌+◌, ◌^◌, ◌-◌, ◌++◌, ◌∷◌, [], true, Some, None, ℕ, length, IfOk, OnOk, IsSome};
-ghost use Rattle.ds_base.specs.Order.{key_lt, bound};
-ghost use Rattle.ds_kind.specs.Asks.{has_room};
-ghost use Rattle.ds_cell.specs.Store.{Store};
-ghost use Rattle.ds_rule.specs.declared.event.Event.TheVariants.{Write};
+ghost use Rattle.ds_coord.specs.Client.{asker_in};
+ghost use Rattle.ds_rule.specs.declared.event.Event.TheVariants as Event;
 ghost use Rattle.ds_rule.specs.declared.journal.Entry.TheVariants as entries;
-ghost use Rattle.ds_rule.specs.Begin.{first_world};
-ghost use Rattle.ds_rule.specs.Clauses.{Stands};
-ghost use Rattle.ds_rule.specs.Close.{with_begin, closed, close_status};
-ghost use Rattle.ds_rule.specs.Moves.{moved};
-ghost use Rattle.ds_script.specs.Journals.{Played};
+ghost use Rattle.ds_rule.specs.Close.{closed, close_status};
+ghost use Rattle.ds_script.specs.Runs.{event_of};
+ghost use Rattle.ds_sim.specs.Made.{CanBeMade};
 ghost use Rattle.ds_sim.specs.State.{state_of};
 ghost use Rattle.ds_text.specs.Log.{has_texts};
-ghost use Rattle.ds_replay.specs.Built.{Stage, Start, Closed, Open, next_stage, is_cluster};
+ghost use Rattle.ds_replay.specs.Built.{Stage, Start, next_stage};
 ghost use Rattle.ds_replay.specs.Stages.{stage_of, IsWithin};
-ghost use Rattle.ds_replay.specs.Taken.{Taken};
+ghost use Rattle.ds_replay.specs.Taken.{HasMade, Taken};
 ghost use Rattle.ds_replay.specs.declared.state.State.TheVariants as State;
 
 use crate::asking::ask;
 use crate::state::State;
 use ds_base::{Copies, Key, Stamp, TxnNo, Value};
+use ds_coord::Txn;
+use ds_desc::Nodes;
 use ds_rule::{Entry, Event, RunLog};
 use ds_script::{Line, Numbered};
-use ds_send::{FixedSender, Txn};
+use ds_send::Sender;
 use ds_sim::Sim;
 use std::alloc::{AllocError, Global};
 
-/// A write of another client, at a key with room for one more byte.
-fn write(
+/// A write of another client.
+fn write_of(
     alloc: Global,
-    sim: &mut Sim,
     key: &Key,
     stamp: Stamp,
     value: &Option<Value>,
-) -> Result<(), AllocError>
-    requires room { has_room key.now ≡ true }
-    requires few { (state_of sim.old).world.count + length (state_of sim.old).block < 2 ^ 64 - 1 }
-    ensures { OnOk result (state_of sim.new ≡ record (state_of sim.old) { world = moved (state_of sim.old).world (Write key.now stamp value.now) }) }
+) -> Result<Event, AllocError>
+    ensures { IfOk result (λ e. e ≡ Event.Write key.now stamp value.now) }
 {
-    let event = Event::Write {
+    Ok(Event::Write {
         key: key.copy(alloc)?,
         stamp,
         value: value.copy(alloc)?,
-    };
-    sim.event(alloc, &event)
+    })
+}
+
+/// A move of the range that holds the key.
+fn move_of(alloc: Global, key: &Key, nodes: &Nodes) -> Result<Event, AllocError>
+    ensures { IfOk result (λ e. e ≡ Event.Move key.now nodes.now) }
+{
+    Ok(Event::Move {
+        key: key.copy(alloc)?,
+        nodes: nodes.copy(alloc)?,
+    })
+}
+
+/// The event that the line is, if it is one.
+fn event_of(alloc: Global, line: &Line) -> Result<Option<Event>, AllocError>
+    ensures { IfOk result (λ o. o ≡ event_of line.now) }
+{
+    match line {
+        Line::Write { key, stamp, value } => Ok(Some(write_of(alloc, key, *stamp, value)?)),
+        Line::Split { key } => Ok(Some(Event::Split {
+            key: key.copy(alloc)?,
+        })),
+        Line::Merge { key } => Ok(Some(Event::Merge {
+            key: key.copy(alloc)?,
+        })),
+        Line::Lease { key, node } => Ok(Some(Event::Lease {
+            key: key.copy(alloc)?,
+            node: *node,
+        })),
+        Line::Move { key, nodes } => Ok(Some(move_of(alloc, key, nodes)?)),
+        Line::Stale { key, back } => Ok(Some(Event::Stale {
+            key: key.copy(alloc)?,
+            back: *back,
+        })),
+        Line::Abort => Ok(Some(Event::Abort)),
+        Line::Arrive { copy } => Ok(Some(Event::Arrive { copy: *copy })),
+        _ => Ok(None),
+    }
+}
+
+/// Makes an event of the cluster's own.
+fn make(
+    alloc: Global,
+    sim: Sim,
+    txn: Option<Txn>,
+    begun: u32,
+    event: Event,
+) -> Result<State, AllocError>
+    requires few { (state_of sim).world.count + length (state_of sim).block < 2 ^ 64 - 1 }
+    requires made { CanBeMade event }
+    ensures { IfOk result (λ new. HasMade sim txn begun event new) }
+{
+    let mut sim = sim;
+    sim.event(alloc, &event)?;
+    Ok(State::Running { sim, txn, begun })
 }
 
 /// Notes how a transaction was closed.
@@ -64,106 +112,89 @@ fn from_start(alloc: Global, numbered: &Numbered, log: &RunLog) -> Result<State,
     ensures taken { IfOk result (λ new. (budget : ℕ) → Taken budget State.Start new numbered.now log.now log.now) }
 {
     match &numbered.line {
-        Line::Cluster(cluster) => Ok(State::Closed {
+        Line::Cluster(cluster) => Ok(State::Running {
             sim: Sim::new(alloc, cluster.ranges.as_slice())?,
+            txn: None,
             begun: 0,
         }),
         _ => unreachable!(),
     }
 }
 
-fn from_closed(
+/// Replays a begin, a close or a batch.
+fn from_running(
     alloc: Global,
     sim: Sim,
+    txn: Option<Txn>,
     begun: u32,
-    sender: &mut FixedSender,
+    sender: &mut Sender,
     numbered: &Numbered,
     log: &mut RunLog,
 ) -> Result<State, AllocError>
-    requires built { IsSome (next_stage Closed numbered.now.line) }
-    requires within { IsWithin (State.Closed sim begun) 20000 }
-    requires tries { 0 < (sender.old).budget }
+    requires alone { event_of numbered.now.line ≡ None }
+    requires built { IsSome (next_stage (stage_of (State.Running sim txn begun)) numbered.now.line) }
+    requires within { IsWithin (State.Running sim txn begun) 20000 }
     requires texts { has_texts log.old ≡ true }
-    ensures stage { IfOk result (λ new. Some (stage_of new) ≡ next_stage Closed numbered.now.line) }
-    ensures within { IfOk result (λ new. (n : ℕ) → IsWithin (State.Closed sim begun) n → IsWithin new (n + 1)) }
-    ensures taken { IfOk result (λ new. Taken (sender.old).budget (State.Closed sim begun) new numbered.now log.old log.new) }
+    ensures stage { IfOk result (λ new. Some (stage_of new) ≡ next_stage (stage_of (State.Running sim txn begun)) numbered.now.line) }
+    ensures within { IfOk result (λ new. (n : ℕ) → IsWithin (State.Running sim txn begun) n → IsWithin new (n + 1)) }
+    ensures taken { IfOk result (λ new. Taken (sender.old).budget (State.Running sim txn begun) new numbered.now log.old log.new) }
     ensures texts { IfOk result (λ _. has_texts log.new ≡ true) }
-    ensures kept { IfOk result (λ _. sender.new ≡ sender.old) }
+    ensures kept { IfOk result (λ _. (sender.new).budget ≡ (sender.old).budget) }
 {
     let mut sim = sim;
     match &numbered.line {
-        Line::Write { key, stamp, value } => {
-            write(alloc, &mut sim, key, *stamp, value)?;
-            Ok(State::Closed { sim, begun })
-        }
         Line::Begin { stamp, .. } => {
             let begun = begun + 1;
             let number = TxnNo(begun);
             sim.begin(alloc, number, *stamp)?;
-            let txn = Txn::begin(number, *stamp);
-            Ok(State::Open { sim, txn, begun })
+            let txn = Some(Txn::begin(number, *stamp));
+            Ok(State::Running { sim, txn, begun })
+        }
+        Line::Close => {
+            note_close(alloc, &mut sim, numbered.number, log)?;
+            let txn = None;
+            Ok(State::Running { sim, txn, begun })
         }
         Line::Batch { batch, block } => {
+            let mut txn = txn;
             ask(
                 alloc,
                 &mut sim,
                 sender,
-                None,
+                &mut txn,
                 numbered.number,
                 batch,
                 block,
                 log,
             )?;
-            Ok(State::Closed { sim, begun })
+            Ok(State::Running { sim, txn, begun })
         }
         _ => unreachable!(),
     }
 }
 
-fn from_open(
+/// Replays a line after the cluster's.
+fn from_cluster(
     alloc: Global,
     sim: Sim,
-    txn: Txn,
+    txn: Option<Txn>,
     begun: u32,
-    sender: &mut FixedSender,
+    sender: &mut Sender,
     numbered: &Numbered,
     log: &mut RunLog,
 ) -> Result<State, AllocError>
-    requires built { IsSome (next_stage (Open txn.stamp.0) numbered.now.line) }
-    requires within { IsWithin (State.Open sim txn begun) 20000 }
-    requires tries { 0 < (sender.old).budget }
+    requires built { IsSome (next_stage (stage_of (State.Running sim txn begun)) numbered.now.line) }
+    requires within { IsWithin (State.Running sim txn begun) 20000 }
     requires texts { has_texts log.old ≡ true }
-    ensures stage { IfOk result (λ new. Some (stage_of new) ≡ next_stage (Open txn.stamp.0) numbered.now.line) }
-    ensures within { IfOk result (λ new. (n : ℕ) → IsWithin (State.Open sim txn begun) n → IsWithin new (n + 1)) }
-    ensures taken { IfOk result (λ new. Taken (sender.old).budget (State.Open sim txn begun) new numbered.now log.old log.new) }
+    ensures stage { IfOk result (λ new. Some (stage_of new) ≡ next_stage (stage_of (State.Running sim txn begun)) numbered.now.line) }
+    ensures within { IfOk result (λ new. (n : ℕ) → IsWithin (State.Running sim txn begun) n → IsWithin new (n + 1)) }
+    ensures taken { IfOk result (λ new. Taken (sender.old).budget (State.Running sim txn begun) new numbered.now log.old log.new) }
     ensures texts { IfOk result (λ _. has_texts log.new ≡ true) }
-    ensures kept { IfOk result (λ _. sender.new ≡ sender.old) }
+    ensures kept { IfOk result (λ _. (sender.new).budget ≡ (sender.old).budget) }
 {
-    let mut sim = sim;
-    match &numbered.line {
-        Line::Write { key, stamp, value } => {
-            write(alloc, &mut sim, key, *stamp, value)?;
-            Ok(State::Open { sim, txn, begun })
-        }
-        Line::Batch { batch, block } => {
-            let open = Some(txn);
-            ask(
-                alloc,
-                &mut sim,
-                sender,
-                open,
-                numbered.number,
-                batch,
-                block,
-                log,
-            )?;
-            Ok(State::Open { sim, txn, begun })
-        }
-        Line::Close => {
-            note_close(alloc, &mut sim, numbered.number, log)?;
-            Ok(State::Closed { sim, begun })
-        }
-        _ => unreachable!(),
+    match event_of(alloc, &numbered.line)? {
+        Some(event) => make(alloc, sim, txn, begun, event),
+        None => from_running(alloc, sim, txn, begun, sender, numbered, log),
     }
 }
 
@@ -171,25 +202,23 @@ fn from_open(
 pub(crate) fn take(
     alloc: Global,
     state: State,
-    sender: &mut FixedSender,
+    sender: &mut Sender,
     numbered: &Numbered,
     log: &mut RunLog,
 ) -> Result<State, AllocError>
     requires built { IsSome (next_stage (stage_of state) numbered.now.line) }
     requires within { IsWithin state 20000 }
-    requires tries { 0 < (sender.old).budget }
     requires texts { has_texts log.old ≡ true }
     ensures stage { IfOk result (λ new. Some (stage_of new) ≡ next_stage (stage_of state) numbered.now.line) }
     ensures within { IfOk result (λ new. (n : ℕ) → IsWithin state n → IsWithin new (n + 1)) }
     ensures taken { IfOk result (λ new. Taken (sender.old).budget state new numbered.now log.old log.new) }
     ensures texts { IfOk result (λ _. has_texts log.new ≡ true) }
-    ensures kept { IfOk result (λ _. sender.new ≡ sender.old) }
+    ensures kept { IfOk result (λ _. (sender.new).budget ≡ (sender.old).budget) }
 {
     match state {
         State::Start => from_start(alloc, numbered, log),
-        State::Closed { sim, begun } => from_closed(alloc, sim, begun, sender, numbered, log),
-        State::Open { sim, txn, begun } => {
-            from_open(alloc, sim, txn, begun, sender, numbered, log)
+        State::Running { sim, txn, begun } => {
+            from_cluster(alloc, sim, txn, begun, sender, numbered, log)
         }
     }
 }

@@ -2,13 +2,13 @@ use Rattle.std.proofs.Common.{◌≤◌, length, arith}
 use Rattle.ds_replay.proofs.Takings.{cluster-begun, cluster-taken}
 use Rattle.ds_replay.proofs.lines.from_start.Goals as goal
 
-pub new-requires-clause-tiled : goal.new-requires-clause-tiled
-new-requires-clause-tiled c = rw c.as_slice.ensures (cluster-begun c.in-Cluster.cluster c.args.numbered.now c.in-Cluster.is c.requires).tiled
-
 pub new-requires-clause-few : goal.new-requires-clause-few
 new-requires-clause-few c =
     let few : length c.in-Cluster.cluster.ranges ≤ 1024 = (cluster-begun c.in-Cluster.cluster c.args.numbered.now c.in-Cluster.is c.requires).few in
     rw c.as_slice.ensures (omega (arith, few))
+
+pub new-requires-clause-leased : goal.new-requires-clause-leased
+new-requires-clause-leased c = rw c.as_slice.ensures (cluster-begun c.in-Cluster.cluster c.args.numbered.now c.in-Cluster.is c.requires).leased
 
 pub returns-clause-stage : goal.returns-clause-stage
 returns-clause-stage c = (cluster-begun c.in-Cluster.cluster c.args.numbered.now c.in-Cluster.is c.requires).stage

@@ -23,5 +23,5 @@ lines-preserved c =
       next-lines xs i x c.in_ok-state.state c.take.new.log c.lines-test.true c.numbered-item.is
           (replay-more (take i xs) (drop (i + 1) xs) i c.lines.state c.in_ok-state.state c.lines.log c.take.new.log x at c.in_ok-state.ensures.stage c.in_ok-state.ensures.within taken),
       c.in_ok-state.ensures.texts,
-      ap (λ s. s.budget) c.in_ok-state.ensures.kept ∙ c.lines.invariant.2,
+      c.in_ok-state.ensures.kept ∙ c.lines.invariant.2,
     )
