@@ -1,12 +1,11 @@
 -- What an answer leaves of the store's transaction, and of how many have begun.
 use Rattle.std.proofs.Common.{◌≡◌, Option, Some, None, refl, ap, ◌∙◌}
 use Rattle.std.specs.Option.{option_map}
-use Rattle.ds_base.specs.declared.value.Stamp.{Stamp}
 use Rattle.ds_kind.specs.declared.batch.Batch.{Batch}
 use Rattle.ds_cell.specs.Store.{Store, StoreTxn}
 use Rattle.ds_rule.specs.declared.answer.Outcome.{Outcome}
 use Rattle.ds_rule.specs.Asking.{asking}
-use Rattle.ds_rule.specs.Plain.{Answered, asker_in, counted_store, counted_txn, doubtful, failed_store, failed_txn, if_of_txn, in_doubt}
+use Rattle.ds_rule.specs.Plain.{Answered, asker_in, counted_store, doubtful, failed_store, in_doubt}
 use Rattle.ds_rule.specs.StandsFor.{open_stamp}
 use Rattle.ds_mean.proofs.Follows.{follows-counted, follows-failed, follows-stamp}
 

@@ -1,5 +1,5 @@
 -- The line of a batch.
-use Rattle.std.proofs.Common.{◌≡◌, ℕ, ◌≤◌, Bool, true, false, ◌&&◌, List, [], map, Option, Some, None, refl, sym, ap, ◌∙◌, subst}
+use Rattle.std.proofs.Common.{◌≡◌, ℕ, ◌≤◌, true, ◌&&◌, List, [], Option, Some, None, refl, sym, ap, ◌∙◌, subst}
 use Rattle.ds_base.proofs.SmallFacts.{and_first, and_second}
 use Rattle.ds_kind.specs.declared.batch.Batch.{Batch}
 use Rattle.ds_legal.specs.Rules.{first_illegal}

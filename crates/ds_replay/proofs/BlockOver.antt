@@ -1,7 +1,6 @@
 -- A batch's block that is over: it plays, and the world means the store after the answer and what happened beside it.
-use Rattle.std.proofs.Common.{◌≡◌, ℕ, ◌≤◌, true, List, [], ◌∷◌, ◌++◌, map, inl, inr, refl, sym, ap, ◌∙◌, subst, arith}
+use Rattle.std.proofs.Common.{◌≡◌, ℕ, ◌≤◌, true, List, [], ◌∷◌, ◌++◌, map, inl, inr, sym, ap, ◌∙◌, subst, arith}
 use Rattle.ds_base.specs.Counts.{Rose}
-use Rattle.ds_desc.specs.declared.meta.Looked.TheVariants as Looked
 use Rattle.ds_kind.specs.declared.batch.Batch.{Batch}
 use Rattle.ds_cell.specs.Store.{Store}
 use Rattle.ds_rule.specs.declared.answer.Answer.TheVariants.{Done, Failed, Refused, Lost}
@@ -12,7 +11,7 @@ use Rattle.ds_rule.specs.declared.journal.JournalStep.TheVariants.{Look, Send}
 use Rattle.ds_rule.specs.Asking.{Asking}
 use Rattle.ds_rule.specs.Blocks.{BlockPlays, all_made, all_moved, never_fall, woven}
 use Rattle.ds_rule.specs.Clauses.{IsLost, Stands}
-use Rattle.ds_rule.specs.Journal.{Happening, Moved, Did, Runs, steps_of}
+use Rattle.ds_rule.specs.Journal.{Happening, Moved, Did, Runs}
 use Rattle.ds_rule.specs.Moves.{IsMove, moved}
 use Rattle.ds_rule.specs.Path.{LosesOnly}
 use Rattle.ds_rule.specs.Pieces.{Each}
@@ -30,7 +29,7 @@ use Rattle.ds_mean.proofs.Lifetimes.{moves_mean}
 use Rattle.ds_mean.proofs.Stores.{after-stamp, event-stamp, event-txn, made-txn}
 use Rattle.ds_sim.specs.State.{Ended}
 use Rattle.ds_replay.proofs.Answers.{answered-stamp}
-use Rattle.ds_replay.proofs.Woven.{alone, each-alone, made-append, made-events, made-of, made-runs, woven-alone, woven-events, woven-steps}
+use Rattle.ds_replay.proofs.Woven.{alone, each-alone, made-append, made-events, made-of, made-runs, woven-alone, woven-events}
 
 -- ---- events one after another
 

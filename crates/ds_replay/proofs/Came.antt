@@ -12,14 +12,12 @@ use Rattle.ds_rule.specs.declared.answer.Outcome.{Outcome}
 use Rattle.ds_rule.specs.declared.journal.JournalStep.{JournalStep}
 use Rattle.ds_rule.specs.Admitting.{refused_by, refused_in}
 use Rattle.ds_rule.specs.Asking.{Asking}
-use Rattle.ds_rule.specs.Blocks.{BlockPlays, all_made, up_to_last_step, woven}
+use Rattle.ds_rule.specs.Blocks.{BlockPlays, up_to_last_step}
 use Rattle.ds_rule.specs.Clauses.{Stands}
 use Rattle.ds_rule.specs.Deliver.{is_rollback}
 use Rattle.ds_rule.specs.Gathered.{Gathered}
-use Rattle.ds_rule.specs.Journal.{Happening, Moved, Did, accepted}
+use Rattle.ds_rule.specs.Journal.{Happening, Did, accepted}
 use Rattle.ds_rule.specs.Law.{IsGiven}
-use Rattle.ds_rule.specs.Path.{LosesOnly}
-use Rattle.ds_rule.specs.Pieces.{Each}
 use Rattle.ds_rule.specs.Plain.{Answered, after_events}
 use Rattle.ds_rule.specs.Whole.{IsOfPart, OfParts, OfPartsIf, must_be_whole}
 use Rattle.ds_rule.specs.World.{World}
@@ -28,10 +26,10 @@ use Rattle.ds_mean.specs.Send.{IsTurnCause, LeadsOn, ShowsWhy}
 use Rattle.ds_mean.proofs.SendLaw.{send_law}
 use Rattle.ds_mean.proofs.Unsent.{unsent_law}
 use Rattle.ds_send.specs.Causes.{CauseOf}
-use Rattle.ds_replay.specs.Because.{OkGathers, SentCause, WhyBatch}
+use Rattle.ds_replay.specs.Because.{OkGathers, WhyBatch}
 use Rattle.ds_sim.specs.State.{Ended}
 use Rattle.ds_replay.specs.Sends.{DoneBy, SentBy}
-use Rattle.ds_replay.proofs.BlockOver.{CanHappen, Over, Ran, all-kept, block-over, kept-told, never-rose}
+use Rattle.ds_replay.proofs.BlockOver.{CanHappen, Over, all-kept, block-over, kept-told, never-rose}
 use Rattle.ds_replay.proofs.Causing.{cause-alone, shows-alone, turn-caused}
 use Rattle.ds_replay.proofs.Readying.{CanAsk}
 use Rattle.ds_replay.proofs.Woven.{accepted-alone, alone, each-alone}

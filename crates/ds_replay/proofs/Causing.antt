@@ -1,9 +1,8 @@
 -- Why a batch was answered so, told by its steps alone, and by what happened up to the last of them.
-use Rattle.std.proofs.Common.{◌≡◌, ℕ, ◌+◌, ◌<◌, ◌≤◌, List, [], ◌∷◌, ◌++◌, map, inl, inr, refl, sym, ap, ◌∙◌, subst}
+use Rattle.std.proofs.Common.{◌≡◌, ℕ, ◌+◌, ◌<◌, ◌≤◌, List, [], ◌∷◌, ◌++◌, inl, inr, refl, sym, ap, ◌∙◌, subst}
 use Rattle.ds_desc.specs.declared.desc.RangeDesc.{RangeDesc}
 use Rattle.ds_kind.specs.declared.batch.Item.{Item}
 use Rattle.ds_kind.specs.declared.reply.Failure.{Failure}
-use Rattle.ds_kind.specs.declared.reply.Failure.TheVariants as Failure
 use Rattle.ds_cell.specs.Store.{Store}
 use Rattle.ds_rule.specs.declared.answer.Answer.TheVariants.{Failed, Lost}
 use Rattle.ds_rule.specs.declared.answer.Outcome.{Outcome}
@@ -11,11 +10,11 @@ use Rattle.ds_rule.specs.declared.event.Timed.{Timed}
 use Rattle.ds_rule.specs.declared.journal.JournalStep.TheVariants.{Send}
 use Rattle.ds_rule.specs.Asking.{Asking}
 use Rattle.ds_rule.specs.Blocks.{all_made, up_to_last_step}
-use Rattle.ds_rule.specs.Cause.{LastFails, UsedUp, losses_of, lost_in, refusals_of, refused_in}
-use Rattle.ds_rule.specs.Journal.{Happening, Moved, Did, accepted, steps_of}
+use Rattle.ds_rule.specs.Cause.{LastFails, losses_of, lost_in, refusals_of, refused_in}
+use Rattle.ds_rule.specs.Journal.{Happening, Moved, Did, accepted}
 use Rattle.ds_rule.specs.Pieces.{Each}
 use Rattle.ds_mean.specs.InTurn.{AreAll, IsLeft, items_of}
-use Rattle.ds_mean.specs.Send.{CameToFail, CameWhole, IsTurnCause, ShowsWhy}
+use Rattle.ds_mean.specs.Send.{CameToFail, IsTurnCause, ShowsWhy}
 use Rattle.ds_mean.specs.Told.{IsTold}
 use Rattle.ds_rule.specs.Gathered.{Gathered}
 use Rattle.ds_rule.specs.Whole.{whole_of}
@@ -24,7 +23,7 @@ use Rattle.ds_flight.specs.Goes.{descs_of, known_after, told_by}
 use Rattle.ds_flight.specs.Left.{failed_by, failures}
 use Rattle.ds_send.specs.Batched.{BatchApart}
 use Rattle.ds_send.specs.Causes.{CauseOf, HasFailed, IsInDoubt, RanOut, WasLost, WasWell, missed_in, risked_in, risks_of}
-use Rattle.ds_replay.proofs.Woven.{accepted-alone, alone, steps-append, up-to-step}
+use Rattle.ds_replay.proofs.Woven.{accepted-alone, alone, up-to-step}
 
 -- ---- what the steps show, of the steps alone
 

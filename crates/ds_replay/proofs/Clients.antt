@@ -1,5 +1,5 @@
 -- The client's open transaction beside the store's, through events and answers.
-use Rattle.std.proofs.Common.{◌≡◌, ℕ, ◌+◌, ◌≤◌, Bool, true, false, cond, List, [], ◌∷◌, length, filter, Option, Some, None, is_none, refl, sym, ap, ◌∙◌, subst, arith}
+use Rattle.std.proofs.Common.{◌≡◌, ℕ, ◌+◌, Bool, true, false, cond, List, [], ◌∷◌, length, filter, Option, Some, None, is_none, refl, sym, ap, ◌∙◌, subst, arith}
 use Rattle.std.specs.List.{list_all}
 use Rattle.std.specs.Option.{option_map}
 use Rattle.ds_base.proofs.SmallFacts.{and_first, and_second}
@@ -11,17 +11,16 @@ use Rattle.ds_kind.specs.declared.request.Request.TheVariants.{Get, Scan, Revers
 use Rattle.ds_cell.specs.Store.{Asker, Store, StoreTxn, Mode, Live, FailedSince, Unknown, OverWith}
 use Rattle.ds_coord.specs.declared.txn.Txn.{Txn}
 use Rattle.ds_coord.specs.Agrees.{AgreesIn}
-use Rattle.ds_coord.specs.Client.{after_batch, answered, asker_in, asker_of, noted, numbered_by, with_numbers}
-use Rattle.ds_coord.proofs.Following.{batch_agrees, events_agree, refusals_agree}
+use Rattle.ds_coord.specs.Client.{after_batch, answered, asker_in, asker_of, noted, with_numbers}
+use Rattle.ds_coord.proofs.Following.{events_agree, refusals_agree}
 use Rattle.ds_rule.specs.declared.answer.Outcome.{Outcome}
 use Rattle.ds_rule.specs.declared.event.Event.{Event}
-use Rattle.ds_rule.specs.declared.event.Event.TheVariants as Event
 use Rattle.ds_rule.specs.declared.event.Timed.{Timed}
 use Rattle.ds_rule.specs.Blocks.{all_made}
-use Rattle.ds_rule.specs.Journal.{Happening, Moved, Did}
+use Rattle.ds_rule.specs.Journal.{Moved}
 use Rattle.ds_rule.specs.Plain.{Answered, abort_txn, after_event, after_events, asker_after, count_numbered, counted_store, counted_txn, failed_mode, failed_store, failed_txn, if_of_txn, uses_numbers}
 use Rattle.ds_rule.specs.Plain as Plain
-use Rattle.ds_rule.specs.StandsFor.{IsKnown, after_made}
+use Rattle.ds_rule.specs.StandsFor.{IsKnown}
 use Rattle.ds_mean.specs.Shows.{txn_by}
 use Rattle.ds_mean.proofs.Stores.{event-txn, made-txn}
 use Rattle.ds_send.specs.Forms.{can_ask, can_send}

@@ -27,7 +27,7 @@ use Rattle.ds_rule.specs.Asking.{Asking, asking, asking_by}
 use Rattle.ds_rule.specs.Blocks.{all_made, all_moved, due, later, woven}
 use Rattle.ds_rule.specs.Clauses.{Stands}
 use Rattle.ds_rule.specs.Deliver.{deliver_world}
-use Rattle.ds_rule.specs.Journal.{Happening, Moved, Did, Does, Runs}
+use Rattle.ds_rule.specs.Journal.{Happening, Moved, Did, Runs}
 use Rattle.ds_rule.specs.Moves.{arrived_as, counted_if, counts, effect, is_copy, moved, without_copy}
 use Rattle.ds_rule.specs.Shifts.{arming}
 use Rattle.ds_rule.specs.World.{World, Late}

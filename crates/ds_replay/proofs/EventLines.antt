@@ -1,12 +1,12 @@
 -- The lines on which an event happens by itself.
-use Rattle.std.proofs.Common.{◌≡◌, ℕ, ◌≤◌, Bool, true, false, List, [], ◌∷◌, Option, Some, None, IsSome, if◌then◌else◌, refl, sym, ap, ◌∙◌, subst, arith}
+use Rattle.std.proofs.Common.{◌≡◌, ℕ, ◌≤◌, Bool, true, false, Option, Some, None, IsSome, if◌then◌else◌, refl, sym, ap, ◌∙◌, subst}
 use Rattle.ds_base.proofs.SmallFacts.{some_same}
 use Rattle.ds_cell.specs.Store.{Store}
 use Rattle.ds_coord.specs.declared.txn.Txn.{Txn}
 use Rattle.ds_coord.specs.Client.{asker_in}
 use Rattle.ds_rule.specs.declared.event.Event.{Event}
 use Rattle.ds_rule.specs.declared.event.Event.TheVariants as events
-use Rattle.ds_rule.specs.Moves.{IsMove, moved}
+use Rattle.ds_rule.specs.Moves.{moved}
 use Rattle.ds_rule.specs.Plain.{after_event}
 use Rattle.ds_rule.specs.StandsFor.{open_stamp}
 use Rattle.ds_mean.proofs.Lifetimes.{moves_mean}
@@ -19,12 +19,12 @@ use Rattle.ds_script.specs.Runs.{event_of, has_entry}
 use Rattle.ds_sim.specs.declared.sim.Sim.{Sim}
 use Rattle.ds_sim.specs.State.{state_of}
 use Rattle.ds_replay.specs.declared.state.State.{State}
-use Rattle.ds_replay.specs.Built.{Stage, Running, line_stage}
+use Rattle.ds_replay.specs.Built.{Running, line_stage}
 use Rattle.ds_replay.specs.Causes.{EntryCause}
 use Rattle.ds_replay.specs.Forming.{floor_at, is_move, stamp_in}
 use Rattle.ds_replay.specs.Gathers.{GatherTurn}
-use Rattle.ds_replay.specs.Stages.{IsIn, StandsAt}
-use Rattle.ds_replay.specs.Taken.{HasMade, LineTaken}
+use Rattle.ds_replay.specs.Stages.{IsIn}
+use Rattle.ds_replay.specs.Taken.{LineTaken}
 use Rattle.ds_replay.proofs.Clients.{event-agrees, event-known, same-asker}
 use Rattle.ds_replay.proofs.Readying.{move-of, open-floor}
 

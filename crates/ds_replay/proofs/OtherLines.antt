@@ -1,21 +1,17 @@
 -- The cluster's line, a begin and a close.
-use Rattle.std.proofs.Common.{◌≡◌, ℕ, ◌+◌, true, List, [], ◌∷◌, Option, Some, None, refl, sym, ap, ◌∙◌, subst}
+use Rattle.std.proofs.Common.{◌≡◌, ℕ, ◌+◌, true, [], Option, Some, None, refl, sym, ap, ◌∙◌, subst}
 use Rattle.std.specs.List.{list_all}
 use Rattle.ds_base.specs.declared.key.Key.{Key}
 use Rattle.ds_base.specs.declared.value.Stamp.{Stamp}
-use Rattle.ds_base.specs.declared.value.TxnNo.{TxnNo}
-use Rattle.ds_kind.specs.declared.reply.TxnStatus.{TxnStatus}
-use Rattle.ds_cell.specs.Store.{Asker, Store, StoreTxn, Fate, Pending, Committed, Aborted}
+use Rattle.ds_cell.specs.Store.{Store, StoreTxn, Fate, Pending, Committed, Aborted}
 use Rattle.ds_coord.specs.declared.txn.Txn.{Txn}
 use Rattle.ds_coord.specs.Agrees.{AgreesIn}
-use Rattle.ds_coord.specs.Client.{asker_in, asker_of, begun}
+use Rattle.ds_coord.specs.Client.{begun}
 use Rattle.ds_coord.proofs.Following.{begin_agrees}
 use Rattle.ds_rule.specs.declared.cluster.Cluster.{Cluster}
-use Rattle.ds_rule.specs.declared.journal.Entry.{Entry}
 use Rattle.ds_rule.specs.declared.journal.Entry.TheVariants as entries
 use Rattle.ds_rule.specs.Begin.{first_world, is_leased, tiles}
 use Rattle.ds_rule.specs.Close.{close_status, closed, settle_cells, with_begin}
-use Rattle.ds_rule.specs.World.{World}
 use Rattle.ds_mean.specs.Laws.{commit_by, said_by}
 use Rattle.ds_mean.specs.Means.{Means}
 use Rattle.ds_mean.proofs.Lifetimes.{begin_means, close_means, first_means}

@@ -1,16 +1,15 @@
 -- A wire that begins a batch's block is ready for the batch.
-use Rattle.std.proofs.Common.{◌≡◌, ℕ, ◌≤◌, ◌<◌, max, Bool, true, false, not, ◌&&◌, ◌||◌, ◌⊎◌, inl, inr, List, [], ◌∷◌, length, nat_le, nat_lt, Option, Some, None, is_none, refl, sym, ap, ◌∙◌, subst, arith}
+use Rattle.std.proofs.Common.{◌≡◌, ℕ, ◌≤◌, max, Bool, true, false, not, ◌||◌, inr, List, [], ◌∷◌, length, nat_le, nat_lt, Option, Some, None, is_none, refl, sym, subst, arith}
 use Rattle.std.specs.List.{list_all, list_any}
 use Rattle.std.specs.Option.{option_map}
 use Rattle.ds_base.proofs.SmallFacts.{and_first, and_second, lt_of, or_neither}
 use Rattle.ds_base.specs.declared.value.Stamp.{Stamp}
-use Rattle.ds_kind.specs.Asks.{has_proper_span, is_end, is_get_or_scan}
+use Rattle.ds_kind.specs.Asks.{is_end, is_get_or_scan}
 use Rattle.ds_kind.specs.Parts.{requests_of}
 use Rattle.ds_kind.specs.declared.batch.Batch.{Batch}
 use Rattle.ds_kind.specs.declared.batch.Item.{Item}
 use Rattle.ds_kind.specs.declared.request.Request.{Request}
 use Rattle.ds_kind.specs.declared.request.Request.TheVariants.{Get, Scan, ReverseScan, Put, ConditionalPut, InitPut, Increment, Delete, DeleteRange, EndTxn, QueryIntent, ResolveIntent, ResolveIntentRange, AdminSplit, AdminTransferLease}
-use Rattle.ds_legal.specs.Legal.{IsLegal}
 use Rattle.ds_legal.specs.Rules.{first_illegal}
 use Rattle.ds_legal.proofs.LegalFacts.{legal_of}
 use Rattle.ds_cell.specs.Store.{Asker, Store, StoreTxn}

@@ -6,9 +6,9 @@ use Rattle.ds_base.proofs.SmallFacts.{and_first, and_second, append_nil, le_of}
 use Rattle.ds_base.specs.declared.key.Key.{Key}
 use Rattle.ds_base.specs.declared.value.Stamp.{Stamp}
 use Rattle.ds_kind.specs.declared.batch.Batch.{Batch}
-use Rattle.ds_cell.specs.Store.{Asker, Store}
+use Rattle.ds_cell.specs.Store.{Store}
 use Rattle.ds_coord.specs.declared.txn.Txn.{Txn}
-use Rattle.ds_coord.specs.Client.{asker_in, asker_of, noted}
+use Rattle.ds_coord.specs.Client.{asker_in, noted}
 use Rattle.ds_rule.specs.declared.answer.Outcome.{Outcome}
 use Rattle.ds_rule.specs.declared.cluster.Cluster.{Cluster}
 use Rattle.ds_rule.specs.declared.event.Block.{Block}
@@ -32,7 +32,7 @@ use Rattle.ds_sim.specs.State.{state_of}
 use Rattle.ds_replay.specs.declared.state.State.{State}
 use Rattle.ds_replay.specs.Asked.{AskedBy}
 use Rattle.ds_replay.specs.Built.{Stage, Start, Running, begin_stage, close_stage, is_cluster, is_sent, line_stage, next_stage}
-use Rattle.ds_replay.specs.Forming.{belongs, floor_at, is_move, may_happen, stamp_in}
+use Rattle.ds_replay.specs.Forming.{belongs, floor_at, is_move, stamp_in}
 use Rattle.ds_send.specs.Asked.{IsOpenFor}
 use Rattle.ds_replay.specs.Stages.{IsCalm, IsFresh, IsWithin, StandsAt, stage_of}
 use Rattle.ds_replay.specs.Taken.{HasMade, LineTaken, Taken}

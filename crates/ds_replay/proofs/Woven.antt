@@ -1,7 +1,6 @@
 -- What happened in a block that is over: its events in their order, and its steps.
-use Rattle.std.proofs.Common.{◌≡◌, ℕ, ◌+◌, ◌≤◌, ◌<◌, Bool, true, false, cond, ◌&&◌, List, [], ◌∷◌, ◌++◌, map, nat_le, refl, sym, ap, ◌∙◌, subst, arith}
+use Rattle.std.proofs.Common.{◌≡◌, ℕ, ◌+◌, ◌≤◌, ◌<◌, true, false, cond, List, [], ◌∷◌, ◌++◌, map, nat_le, refl, sym, ap, ◌∙◌, arith}
 use Rattle.std.proofs.lemmas.Bool.Decides.{nat_tests}
-use Rattle.std.specs.List.{filter}
 use Rattle.ds_base.proofs.SmallFacts.{and_both, and_first, and_second, le_of, gt_of}
 use Rattle.ds_cell.specs.Store.{Store}
 use Rattle.ds_rule.specs.declared.event.Timed.{Timed}
@@ -15,7 +14,6 @@ use Rattle.ds_rule.specs.Plain.{after_event, after_events}
 use Rattle.ds_rule.specs.Sending.{AllOf}
 use Rattle.ds_rule.specs.StandsFor.{after_made}
 use Rattle.ds_rule.specs.World.{World}
-use Rattle.ds_rule.proofs.Eachs.{each-right}
 
 -- ---- events behind what happened
 

@@ -6,7 +6,6 @@ use Rattle.ds_legal.specs.Rules.{first_illegal}
 use Rattle.ds_coord.specs.declared.txn.Txn.{Txn}
 use Rattle.ds_coord.specs.Client.{asker_in, noted, refusal_by}
 use Rattle.ds_rule.specs.declared.answer.Outcome.{Outcome}
-use Rattle.ds_rule.specs.declared.answer.Outcome.TheVariants as Outcome
 use Rattle.ds_rule.specs.declared.event.Block.{Block}
 use Rattle.ds_rule.specs.declared.journal.Entry.{Entry}
 use Rattle.ds_rule.specs.declared.journal.Entry.TheVariants as entries

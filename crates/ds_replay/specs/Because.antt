@@ -4,7 +4,6 @@ use Rattle.ds_desc.specs.declared.desc.RangeDesc.{RangeDesc}
 use Rattle.ds_kind.specs.declared.illegal.Illegal.{Illegal}
 use Rattle.ds_cell.specs.Store.{Store}
 use Rattle.ds_rule.specs.declared.answer.Outcome.{Outcome}
-use Rattle.ds_rule.specs.declared.answer.Outcome.TheVariants as Outcome
 use Rattle.ds_rule.specs.declared.event.Timed.{Timed}
 use Rattle.ds_rule.specs.declared.journal.JournalStep.{JournalStep}
 use Rattle.ds_rule.specs.Asking.{Asking}

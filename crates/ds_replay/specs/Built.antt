@@ -1,7 +1,6 @@
 -- The scripts that are built so far.
-use Rattle.std.specs.Prelude.{◌≡◌, ℕ, Bool, true, false, ◌&&◌, List, [], ◌∷◌, length, nat_le, Option, Some, None, if◌then◌else◌, refl}
+use Rattle.std.specs.Prelude.{◌≡◌, ℕ, Bool, false, ◌&&◌, List, [], ◌∷◌, length, nat_le, Option, Some, None, if◌then◌else◌, refl}
 use Rattle.std.specs.List.{list_all}
-use Rattle.ds_base.specs.declared.value.Stamp.{Stamp}
 use Rattle.ds_kind.specs.declared.batch.Batch.{Batch}
 use Rattle.ds_rule.specs.declared.cluster.ClusterRange.{ClusterRange}
 use Rattle.ds_rule.specs.declared.event.Block.{Block}

@@ -3,7 +3,6 @@ use Rattle.std.specs.Prelude.{ℕ, Option}
 use Rattle.std.specs.Option.{option_map}
 use Rattle.ds_base.specs.declared.value.Stamp.{Stamp}
 use Rattle.ds_replay.specs.declared.built.Form.{Form}
-use Rattle.ds_replay.specs.declared.built.Form.TheVariants as Form
 use Rattle.ds_replay.specs.Built.{Stage, Start, Running}
 
 abbrev pub stamp_by : Option Stamp → Option ℕ

@@ -1,8 +1,7 @@
 -- When the Ok answers of a log are gathered.
-use Rattle.std.specs.Prelude.{◌≡◌, List, Option, Some, None}
+use Rattle.std.specs.Prelude.{◌≡◌, List, Option, Some}
 use Rattle.ds_kind.specs.declared.batch.Batch.{Batch}
 use Rattle.ds_rule.specs.declared.answer.Outcome.{Outcome}
-use Rattle.ds_rule.specs.declared.event.Block.{Block}
 use Rattle.ds_rule.specs.declared.journal.Entry.{Entry}
 use Rattle.ds_rule.specs.declared.journal.Entry.TheVariants as entries
 use Rattle.ds_rule.specs.declared.journal.JournalStep.{JournalStep}

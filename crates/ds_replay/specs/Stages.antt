@@ -1,6 +1,5 @@
 -- How far a replay has come.
 use Rattle.std.specs.Prelude.{◌≡◌, ℕ, ◌*◌, ◌≤◌, [], Option, Some, None}
-use Rattle.std.specs.Option.{option_map}
 use Rattle.ds_cell.specs.Store.{Store, StoreTxn, empty_store}
 use Rattle.ds_coord.specs.declared.txn.Txn.{Txn}
 use Rattle.ds_coord.specs.Agrees.{AgreesIn}
