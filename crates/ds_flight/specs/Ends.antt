@@ -24,6 +24,7 @@ ends_flight (Send n p (Failed f)) = true
 ends_flight (Send n p (Refused r)) = false
 ends_flight (Send n p Lost) = ends_at_once (is_risky p) p.head.txn
 
+-- it is no step that ends one
 abbrev pub EndsNot : Happening → Type 0
 EndsNot (Moved e) = Unit {0}
 EndsNot (Did s) = ends_flight s ≡ false

@@ -32,6 +32,7 @@ TookPicks before after hs = after ≡ picks_after before (sends_of hs)
 abbrev pub TookOneMore : List ℕ → List ℕ → List Happening → Type 0
 TookOneMore before after hs = after ≡ later_picks (picks_after before (sends_of hs))
 
+-- one send, or none
 abbrev pub IsOneAtMost : List JournalStep → Type 0
 IsOneAtMost [] = Unit {0}
 IsOneAtMost (s ∷ sends) = sends ≡ []
